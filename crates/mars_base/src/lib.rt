@@ -1,0 +1,8 @@
+//! What all other crates stand on: the one answer for want of memory, and the count of faults.
+#![tactic(auto)]
+
+mod faults;
+mod no_memory;
+
+pub use faults::Faults;
+pub use no_memory::NoMemory;

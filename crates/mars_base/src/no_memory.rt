@@ -1,0 +1,18 @@
+//! Want of memory, made from std's errors of allocation.
+use std::alloc::{AllocError, AllocFailed};
+
+/// There was no memory: the one answer for it in the whole workspace.
+#[derive(Clone, Copy, Debug, PartialEq, Eq)]
+pub struct NoMemory;
+
+impl From<AllocError> for NoMemory {
+    fn from(_error: AllocError) -> NoMemory {
+        NoMemory
+    }
+}
+
+impl<T: Drop> From<AllocFailed<T>> for NoMemory {
+    fn from(_error: AllocFailed<T>) -> NoMemory {
+        NoMemory
+    }
+}

@@ -1,0 +1,133 @@
+ghost use Rattle.std.specs.Prelude.{◌≡◌, ◌<◌, ◌≤◌, ◌+◌, ◌++◌, ◌∷◌, [], length, replicate, slice_get, Some, IfOk, OnOk, OnErr, All, take, drop};
+ghost use Rattle.mars_tree.specs.Label.{arity_of};
+ghost use Rattle.mars_tree.specs.Graph.{IsGraph, label_of, kids_of, with_kid, labelled, free_leaf};
+
+use mars_base::NoMemory;
+use crate::label::Label;
+use std::alloc::Global;
+use std::marker::Model;
+
+/// A list of nodes, each a label with as many kids as its arity, or a free leaf.
+#[derive(Drop)]
+pub struct Graph {
+    labels: Vec<Option<Label>>,
+    starts: Vec<usize>,
+    kids: Vec<usize>,
+}
+
+impl Model for Graph {
+    ghost use Rattle.std.specs.Prelude.{List};
+    ghost use Rattle.mars_tree.specs.Graph.{Node};
+
+    ghost Value = { List Node };
+
+    ghost use Rattle.mars_tree.specs.Stored.{nodes_of, IsLaid};
+
+    ghost view = { λ g. nodes_of g.labels.items g.kids.items };
+
+    ghost invariant = { λ g. IsLaid g.labels.items g.starts.items g.kids.items };
+}
+
+impl Graph {
+    pub fn new(alloc: Global) -> Graph
+        ensures { result ≡ [] }
+    {
+        Graph {
+            labels: Vec::new(alloc),
+            starts: Vec::new(alloc),
+            kids: Vec::new(alloc),
+        }
+    }
+
+    /// Adds a node whose kids are all itself.
+    pub fn add(&mut self, label: Label) -> Result<usize, NoMemory>
+        ensures node { IfOk result (λ n. n ≡ length self.old) }
+        ensures ok { OnOk result (self.new ≡ self.old ++ labelled label (replicate (arity_of label) (length self.old)) ∷ []) }
+        ensures err { OnErr result (self.new ≡ self.old) }
+    {
+        self.labels.reserve(1)?;
+        self.starts.reserve(1)?;
+        let node = self.labels.len();
+        let start = self.kids.len();
+        self.kids.resize(start + label.arity(), node)?;
+        self.labels.push_reserved(Some(label));
+        self.starts.push_reserved(start);
+        Ok(node)
+    }
+
+    /// Adds a free leaf.
+    pub fn add_free(&mut self) -> Result<usize, NoMemory>
+        ensures node { IfOk result (λ n. n ≡ length self.old) }
+        ensures ok { OnOk result (self.new ≡ self.old ++ free_leaf ∷ []) }
+        ensures err { OnErr result (self.new ≡ self.old) }
+    {
+        self.labels.reserve(1)?;
+        self.starts.reserve(1)?;
+        let node = self.labels.len();
+        self.labels.push_reserved(None);
+        self.starts.push_reserved(self.kids.len());
+        Ok(node)
+    }
+
+    pub fn set_kid(&mut self, node: usize, place: usize, to: usize)
+        requires node_in { node < length self.old }
+        requires place_in { place < length (kids_of self.old node) }
+        requires to_in { to < length self.old }
+        ensures { self.new ≡ with_kid self.old node place to }
+    {
+        let start = self.starts[node];
+        self.kids[start + place] = to;
+    }
+
+    pub fn len(&self) -> usize
+        ensures len { result ≡ length self.now }
+        ensures graph { IsGraph self.now }
+    {
+        self.labels.len()
+    }
+
+    /// The label of a node, `None` exactly for a free leaf.
+    pub fn label(&self, node: usize) -> Option<Label>
+        requires { node < length self.now }
+        ensures { result ≡ label_of self.now node }
+    {
+        self.labels[node]
+    }
+
+    /// How many kids a node has.
+    pub fn arity(&self, node: usize) -> usize
+        requires { node < length self.now }
+        ensures { result ≡ length (kids_of self.now node) }
+    {
+        match self.labels[node] {
+            Some(label) => label.arity(),
+            None => 0,
+        }
+    }
+
+    pub fn kid(&self, node: usize, place: usize) -> usize
+        requires node_in { node < length self.now }
+        requires place_in { place < length (kids_of self.now node) }
+        ensures kid { slice_get (kids_of self.now node) place ≡ Some result }
+        ensures kid_in { result < length self.now }
+    {
+        self.kids[self.starts[node] + place]
+    }
+
+    /// The kids of a node, in order.
+    pub fn kids(&self, node: usize) -> &[usize]
+        requires { node < length self.now }
+        ensures kids { result.now ≡ kids_of self.now node }
+        ensures in_range { All (λ kid. kid < length self.now) result.now }
+    {
+        part(&self.kids, self.starts[node], self.arity(node))
+    }
+}
+
+/// As many numbers as are asked for, from a place on.
+fn part(numbers: &[usize], start: usize, count: usize) -> &[usize]
+    requires { start + count ≤ length numbers.now }
+    ensures { result.now ≡ take count (drop start numbers.now) }
+{
+    &numbers[start..start + count]
+}

@@ -1,0 +1,16 @@
+//! Rational trees as finite graphs.
+#![tactic(auto)]
+
+mod graph;
+mod label;
+mod laws;
+mod pairs;
+mod sameness;
+
+pub use graph::Graph;
+pub use label::{Label, NameId};
+pub use laws::{one_canonical_graph, one_canonical_ground_graph, short_paths_decide};
+pub use sameness::same;
+
+#[cfg(test)]
+mod tests;
