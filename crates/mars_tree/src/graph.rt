@@ -2,8 +2,8 @@ ghost use Rattle.std.specs.Prelude.{◌≡◌, ◌<◌, ◌≤◌, ◌+◌, ◌+
 ghost use Rattle.mars_tree.specs.Label.{arity_of};
 ghost use Rattle.mars_tree.specs.Graph.{IsGraph, label_of, kids_of, with_kid, labelled, free_leaf};
 
-use mars_base::NoMemory;
 use crate::label::Label;
+use mars_base::NoMemory;
 use std::alloc::Global;
 use std::marker::Model;
 

@@ -4,12 +4,14 @@
 mod graph;
 mod label;
 mod laws;
+mod names;
 mod pairs;
 mod sameness;
 
 pub use graph::Graph;
 pub use label::{Label, NameId};
 pub use laws::{one_canonical_graph, one_canonical_ground_graph, short_paths_decide};
+pub use names::Names;
 pub use sameness::same;
 
 #[cfg(test)]

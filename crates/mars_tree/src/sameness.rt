@@ -3,10 +3,10 @@ ghost use Rattle.mars_tree.specs.Graph.{IsGround, Same, kids_of};
 ghost use Rattle.mars_tree.specs.Kids.{IsKidPair};
 ghost use Rattle.mars_tree.specs.Pairs.{Grows};
 
-use mars_base::NoMemory;
 use crate::graph::Graph;
 use crate::label::is_same;
 use crate::pairs::Pairs;
+use mars_base::NoMemory;
 use std::alloc::Global;
 
 /// Meets the pairs of kids of two nodes with equally many.
