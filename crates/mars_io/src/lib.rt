@@ -1,0 +1,19 @@
+//! The outside: a source of bytes and a sink for bytes, each with a count of its faults.
+#![tactic(auto)]
+
+mod adapters;
+mod buffer;
+mod bytes;
+mod sink;
+mod source;
+mod whole;
+
+pub use adapters::{FromReader, ToWriter};
+pub use buffer::Buffer;
+pub use bytes::{Bytes, NeverFails};
+pub use sink::{Put, Sink};
+pub use source::{Source, Taken};
+pub use whole::{Reading, read_whole};
+
+#[cfg(test)]
+mod tests;
