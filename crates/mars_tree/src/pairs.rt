@@ -1,6 +1,8 @@
-ghost use Rattle.std.specs.Prelude.{◌≡◌, ◌<◌, ◌≤◌, ◌+◌, ◌*◌, ◌^◌, [], length, slice_get, Some, IfOk, OnOk, Contains};
+//! The pairs of nodes that a comparison has met: a queue in which each pair stands once and is found at once.
+ghost use Rattle.std.specs.Prelude.{◌≡◌, ◌<◌, ◌≤◌, ◌*◌, [], length, slice_get, Some, OnOk, Contains};
 ghost use Rattle.mars_tree.specs.Pairs.{Grows};
 
+use indexmap::IndexSet;
 use mars_base::NoMemory;
 use std::alloc::Global;
 use std::marker::Model;
@@ -10,8 +12,7 @@ use std::marker::Model;
 pub struct Pairs {
     height: usize,
     width: usize,
-    marks: Vec<bool>,
-    list: Vec<(usize, usize)>,
+    met: IndexSet<(usize, usize)>,
 }
 
 impl Model for Pairs {
@@ -19,56 +20,51 @@ impl Model for Pairs {
 
     ghost Value = { Met };
 
-    ghost use Rattle.mars_tree.specs.PairsInside.{met_of, IsMarkedInside};
+    ghost use Rattle.mars_tree.specs.PairsInside.{met_of, AreInside};
 
     ghost view = { met_of };
 
-    ghost invariant = { IsMarkedInside };
+    ghost invariant = { AreInside };
 }
 
 impl Pairs {
-    pub fn new(alloc: Global, height: usize, width: usize) -> Result<Pairs, NoMemory>
-        ensures { IfOk result (λ p. p ≡ record { height = height; width = width; pairs = [] }) }
+    /// No pair of numbers below this height and this width.
+    pub fn new(alloc: Global, height: usize, width: usize) -> Pairs
+        ensures { result ≡ record { height = height; width = width; pairs = [] } }
     {
-        let Some(size) = height.checked_mul(width) else {
-            return Err(NoMemory);
-        };
-        Ok(Pairs {
+        Pairs {
             height,
             width,
-            marks: vec![in alloc; false; size]?,
-            list: Vec::new(alloc),
-        })
+            met: IndexSet::new(alloc),
+        }
     }
 
-    /// Adds a pair that was not met before.
+    /// Adds a pair, unless it was met before.
     pub fn meet(&mut self, i: usize, j: usize) -> Result<(), NoMemory>
         requires i_in { i < self.old.height }
         requires j_in { j < self.old.width }
         ensures grows { OnOk result (Grows (λ pair. pair ≡ (i, j)) self.old self.new) }
         ensures there { OnOk result (Contains self.new.pairs (i, j)) }
     {
-        let place = i * self.width + j;
-        if !self.marks[place] {
-            self.list.push((i, j))?;
-            self.marks[place] = true;
-        }
+        self.met.insert((i, j))?;
         Ok(())
     }
 
+    /// How many pairs were met.
     pub fn len(&self) -> usize
         ensures len { result ≡ length self.now.pairs }
         ensures bound { result ≤ self.now.height * self.now.width }
     {
-        self.list.len()
+        self.met.len()
     }
 
-    pub fn get(&self, k: usize) -> (usize, usize)
-        requires { k < length self.now.pairs }
-        ensures pair { slice_get self.now.pairs k ≡ Some result }
+    /// The pair that was met at a place.
+    pub fn get(&self, place: usize) -> (usize, usize)
+        requires { place < length self.now.pairs }
+        ensures pair { slice_get self.now.pairs place ≡ Some result }
         ensures i_in { result.0 < self.now.height }
         ensures j_in { result.1 < self.now.width }
     {
-        self.list[k]
+        self.met[place]
     }
 }

@@ -33,7 +33,7 @@ pub fn same(alloc: Global, a: &Graph, n: usize, b: &Graph, m: usize) -> Result<b
     requires b_ground { IsGround b.now }
     ensures { IfOk result (λ yes. IsTrue yes ↔ Same a.now n b.now m) }
 {
-    let mut pairs = Pairs::new(alloc, a.len(), b.len())?;
+    let mut pairs = Pairs::new(alloc, a.len(), b.len());
     pairs.meet(n, m)?;
     let mut next = 0;
     while next < pairs.len() {
