@@ -1,0 +1,4 @@
+pub mod Bytes
+pub mod Lexed
+pub mod Seen
+pub mod Token
