@@ -1,1 +1,5 @@
+pub mod First
+pub mod Lexing
+pub mod Placing
+pub mod Steps
 pub mod Words

@@ -44,7 +44,7 @@ IsShort (Variable text) = length text ≤ 64
 IsShort (Odd text) = length text ≤ 64
 IsShort _ = Unit {0}
 
--- how many brackets are open behind a token, where `depth` are in front of it
+-- how many brackets are open behind a token, where `depth` are in front of it; one that closes where none is open changes nothing
 abbrev pub opened : ℕ → Token → ℕ
 opened depth Open = depth + 1
 opened depth Close = depth - 1
@@ -65,6 +65,10 @@ pub record AreWithinLimits (depth : ℕ) (bytes : List ℕ) (tokens : List Token
 abbrev pub IsLexed : List ℕ → List Token → Type 0
 IsLexed bytes tokens = AreWithinLimits 0 bytes tokens
 
+-- the bytes have no list of tokens within the limits
+abbrev pub IsNotLexed : List ℕ → Type 0
+IsNotLexed bytes = (tokens : List Token) → IsLexed bytes tokens → ⊥
+
 -- a text has at most one list of tokens
 abbrev pub OneTokenList : Type 0
 OneTokenList = (bytes : List ℕ) (tokens others : List Token) → IsLexed bytes tokens → IsLexed bytes others → tokens ≡ others
@@ -72,3 +76,7 @@ OneTokenList = (bytes : List ℕ) (tokens others : List Token) → IsLexed bytes
 -- no token begins the bytes
 abbrev pub BeginsNone : List ℕ → Type 0
 BeginsNone bytes = (text rest : List ℕ) → text ++ rest ≡ bytes → is_token text ≡ true → ⊥
+
+-- no token of at most 64 bytes begins the bytes: none at all, or the longest is too long
+abbrev pub HasNoToken : List ℕ → Type 0
+HasNoToken bytes = (text rest : List ℕ) → text ++ rest ≡ bytes → IsLongest text rest → IsShort (token_of text) → ⊥
