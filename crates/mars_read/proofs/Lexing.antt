@@ -9,7 +9,7 @@ use Rattle.std.proofs.lemmas.Slice.Eq.{bytes_eq-Decides}
 use Rattle.mars_read.specs.Bytes.{is_letter, is_blank, is_sign}
 use Rattle.mars_read.specs.Token.{Token, Rules, Session, Ends, Where, Name, Variable, Odd, Open, Close, Comma, Semicolon, Equals, token_of, word_of, sign_of, spelled}
 use Rattle.mars_read.specs.Lexed.{is_token, IsLongest, Begins, IsShort}
-use Rattle.mars_read.proofs.First.{other-token, one-sign-length, prefix-all}
+use Rattle.mars_read.proofs.FirstToken.{other-token, one-sign-length, prefix-all}
 
 -- a token begins with no blank
 pub token-first : (b : ℕ) (u : List ℕ) → is_token (b ∷ u) ≡ true → is_blank b ≡ false

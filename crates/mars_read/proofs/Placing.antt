@@ -9,7 +9,7 @@ use Rattle.mars_read.specs.declared.token.Token.{Token as Placed}
 use Rattle.mars_read.specs.Token.{token_of}
 use Rattle.mars_read.specs.Seen.{text_at, seen, all_seen, IsWithin}
 use Rattle.mars_read.specs.Lexed.{IsLongest, Begins, IsShort, opened, IsLexed, IsNotLexed, HasNoToken}
-use Rattle.mars_read.proofs.First.{prefix-all}
+use Rattle.mars_read.proofs.FirstToken.{prefix-all}
 use Rattle.mars_read.proofs.Steps.{LexedTo, lexed-more, lexed-end, lexed-bad, lexed-deep, all-blank, not-all-blank}
 
 -- the tokens in front of a place

@@ -7,7 +7,7 @@ use Rattle.std.proofs.lemmas.List.Elements.{All-cons, All-head, All-tail, All-ni
 use Rattle.mars_read.specs.Bytes.{is_blank}
 use Rattle.mars_read.specs.Token.{Token}
 use Rattle.mars_read.specs.Lexed.{is_token, IsLongest, Begins, BeginsNone, AreTokens, IsShort, opened, deepest, AreWithinLimits, IsLexed, OneTokenList, IsNotLexed, HasNoToken}
-use Rattle.mars_read.proofs.First.{prefix-all}
+use Rattle.mars_read.proofs.FirstToken.{prefix-all}
 use Rattle.mars_read.proofs.Lexing.{begins-one, begins-behind, token-first, short-token}
 
 blank-rest : (blanks rest : List ℕ) → list_all is_blank (blanks ++ rest) ≡ true → list_all is_blank rest ≡ true

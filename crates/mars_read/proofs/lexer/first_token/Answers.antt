@@ -1,5 +1,5 @@
 use Rattle.std.proofs.Common.{◌∙◌, sym}
-use Rattle.mars_read.proofs.First.{word-longest}
+use Rattle.mars_read.proofs.FirstToken.{word-longest}
 use Rattle.mars_read.proofs.lexer.first_token.Goals as goal
 
 pub returns-then-is_letter-clause-longest : goal.returns-then-is_letter-clause-longest
