@@ -1,0 +1,11 @@
+pub mod Assembly
+pub mod Complete
+pub mod FirstToken
+pub mod Forms
+pub mod Lexing
+pub mod Naming
+pub mod Placing
+pub mod Refused
+pub mod Steps
+pub mod Tails
+pub mod Words

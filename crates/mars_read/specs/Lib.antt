@@ -1,0 +1,9 @@
+pub mod Bytes
+pub mod First
+pub mod Grammar
+pub mod Lexed
+pub mod Machine
+pub mod Reading
+pub mod Seen
+pub mod Token
+pub mod Written

@@ -1,0 +1,111 @@
+//! The tokens that are left to read, seen with their spellings.
+ghost use Rattle.std.specs.Prelude.{◌≡◌, List, [], ◌∷◌, All, IfOk, IfErr, OnOk, IfSome, IfNone};
+ghost use Rattle.std.specs.Bool.{OnTrue, OnFalse};
+ghost use Rattle.mars_read.specs.Seen.{named, all_seen, IsWithin};
+ghost use Rattle.mars_read.specs.Token.{Name};
+ghost use Rattle.mars_read.specs.Reading.{OnForm, IsNotNext, IsNoName, IsBare, IsLeft};
+
+use crate::refusal::Refusal;
+use crate::token::{Kind, Token, text_of};
+use std::marker::Model;
+
+/// A place in a list of tokens.
+#[derive(Drop)]
+pub(crate) struct Cursor<'a> {
+    bytes: &'a [u8],
+    tokens: &'a [Token],
+}
+
+impl<'a> Model for Cursor<'a> {
+    ghost use Rattle.std.specs.Prelude.{List, All};
+    ghost use Rattle.mars_read.specs.Token.{Token};
+    ghost use Rattle.mars_read.specs.Seen.{all_seen, IsWithin};
+
+    ghost Value = { List Token };
+
+    ghost view = { λ cursor. all_seen cursor.bytes.now cursor.tokens.now };
+
+    ghost invariant = { λ cursor. All (IsWithin cursor.bytes.now) cursor.tokens.now };
+}
+
+impl<'a> Cursor<'a> {
+    /// In front of all tokens.
+    pub(crate) fn new(bytes: &'a [u8], tokens: &'a [Token]) -> Cursor<'a>
+        requires { All (IsWithin bytes.now) tokens.now }
+        ensures { result ≡ all_seen bytes.now tokens.now }
+    {
+        Cursor { bytes, tokens }
+    }
+
+    /// Takes the next token, if there is one: its kind and its spelling.
+    pub(crate) fn next(&mut self) -> Option<(Kind, &'a [u8])>
+        ensures some { IfSome result (λ r. self.old ≡ named r.0 r.1.now ∷ self.new) }
+        ensures none { IfNone result (self.old ≡ []) }
+    {
+        match self.tokens.split_first() {
+            Some((next, rest)) => {
+                self.tokens = rest;
+                Some((next.kind, text_of(self.bytes, *next)))
+            }
+            None => None,
+        }
+    }
+
+    /// Takes the next token if it is this sign or reserved identifier.
+    pub(crate) fn takes(&mut self, sign: Kind) -> bool
+        requires { IsBare sign }
+        ensures taken { OnTrue result (self.old ≡ named sign [] ∷ self.new) }
+        ensures left { OnFalse result (self.new ≡ self.old) }
+        ensures apart { OnFalse result (IsNotNext (named sign []) self.old) }
+    {
+        match self.tokens.split_first() {
+            Some((next, rest)) => {
+                let is_next = next.kind == sign;
+                if is_next {
+                    self.tokens = rest;
+                }
+                is_next
+            }
+            None => false,
+        }
+    }
+
+    /// Takes this sign or reserved identifier.
+    pub(crate) fn expect(&mut self, sign: Kind) -> Result<(), Refusal>
+        requires { IsBare sign }
+        ensures taken { OnOk result (self.old ≡ named sign [] ∷ self.new) }
+        ensures refused { IfErr result (λ e. OnForm e (IsNotNext (named sign []) self.old)) }
+    {
+        if self.takes(sign) { Ok(()) } else { Err(Refusal::Form) }
+    }
+
+    /// Takes a name, and gives its spelling.
+    pub(crate) fn name(&mut self) -> Result<&'a [u8], Refusal>
+        ensures taken { IfOk result (λ text. self.old ≡ Name text.now ∷ self.new) }
+        ensures refused { IfErr result (λ e. OnForm e (IsNoName self.old)) }
+    {
+        match self.next() {
+            Some((Kind::Name, text)) => Ok(text),
+            _ => Err(Refusal::Form),
+        }
+    }
+
+    /// Takes this word.
+    pub(crate) fn word(&mut self, word: &[u8]) -> Result<(), Refusal>
+        ensures taken { OnOk result (self.old ≡ Name word.now ∷ self.new) }
+        ensures refused { IfErr result (λ e. OnForm e (IsNotNext (Name word.now) self.old)) }
+    {
+        match self.next() {
+            Some((Kind::Name, text)) => if text == word { Ok(()) } else { Err(Refusal::Form) },
+            _ => Err(Refusal::Form),
+        }
+    }
+
+    /// Nothing is left.
+    pub(crate) fn finish(&self) -> Result<(), Refusal>
+        ensures done { OnOk result (self.now ≡ []) }
+        ensures refused { IfErr result (λ e. OnForm e (IsLeft self.now)) }
+    {
+        if self.tokens.is_empty() { Ok(()) } else { Err(Refusal::Form) }
+    }
+}

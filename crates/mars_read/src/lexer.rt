@@ -1,0 +1,130 @@
+//! The tokens of a text, from left to right in one pass.
+ghost use Rattle.std.specs.Prelude.{◌≡◌, ℕ, ◌<◌, ◌≤◌, ◌^◌, List, ◌++◌, length, take, drop, All, IfOk, IfSome, IfNone};
+ghost use Rattle.std.specs.List.{prefix_len};
+ghost use Rattle.mars_read.specs.Bytes.{is_tail, is_blank};
+ghost use Rattle.mars_read.specs.Lexed.{IsLongest, BeginsNone, HasNoToken, IsShort, IsLexed, IsNotLexed, opened, OneTokenList};
+ghost use Rattle.mars_read.specs.Token.{token_of};
+ghost use Rattle.mars_read.specs.Seen.{named, text_at, seen, all_seen, IsWithin};
+
+use crate::bytes::{is_blank, is_letter, is_sign, is_tail};
+use crate::token::{Kind, Token, kind_of};
+use mars_base::NoMemory;
+use std::alloc::Global;
+
+/// The most bytes of a word.
+pub const LONGEST_WORD: usize = 64;
+/// The most brackets that may be open at once.
+pub const DEEPEST: u32 = 200;
+
+/// How many blanks stand in front.
+fn blanks(bytes: &[u8]) -> usize
+    ensures count { result ≡ prefix_len is_blank bytes.now }
+    ensures within { result ≤ length bytes.now }
+{
+    bytes.iter().take_while(|b| is_blank(**b)).count()
+}
+
+/// How many bytes in front can stand in a word behind its first.
+fn tail(bytes: &[u8]) -> usize
+    ensures count { result ≡ prefix_len is_tail bytes.now }
+    ensures within { result ≤ length bytes.now }
+{
+    bytes.iter().take_while(|b| is_tail(**b)).count()
+}
+
+/// The length of the longest token in front, if one begins there.
+fn first_token(bytes: &[u8]) -> Option<usize>
+    requires { length bytes.now < 2 ^ 32 }
+    ensures longest { IfSome result (λ n. IsLongest (take n bytes.now) (drop n bytes.now)) }
+    ensures within { IfSome result (λ n. n ≤ length bytes.now) }
+    ensures some { IfSome result (λ n. 0 < n) }
+    ensures none { IfNone result (BeginsNone bytes.now) }
+{
+    let (first, rest) = bytes.split_first()?;
+    if is_letter(*first) {
+        Some(1 + tail(rest))
+    } else if is_sign(*first) {
+        Some(1)
+    } else {
+        None
+    }
+}
+
+/// The bytes from a place on.
+fn from_place(bytes: &[u8], at: usize) -> &[u8]
+    requires { at ≤ length bytes.now }
+    ensures { result.now ≡ drop at bytes.now }
+{
+    &bytes[at..]
+}
+
+/// How many brackets are open behind a token, where `depth` are in front of it.
+fn opened(depth: u32, kind: Kind) -> u32
+    requires { depth ≤ 200 }
+    ensures opened { (text : List ℕ) → result ≡ opened depth (named kind text) }
+    ensures within { result ≤ 201 }
+{
+    match kind {
+        Kind::Open => depth + 1,
+        Kind::Close => depth.saturating_sub(1),
+        _ => depth,
+    }
+}
+
+/// The next token behind blanks, if one begins there and is no word of more than 64 bytes.
+fn next_token(bytes: &[u8], start: usize) -> Option<Token>
+    requires size { length bytes.now < 2 ^ 32 }
+    requires start_in { start ≤ length bytes.now }
+    ensures place { IfSome result (λ t. (t.start ≡ start) × (start < t.end)) }
+    ensures within { IfSome result (IsWithin bytes.now) }
+    ensures token { IfSome result (λ t. seen bytes.now t ≡ token_of (text_at bytes.now t)) }
+    ensures longest { IfSome result (λ t. IsLongest (text_at bytes.now t) (drop t.end bytes.now)) }
+    ensures short { IfSome result (λ t. IsShort (seen bytes.now t)) }
+    ensures none { IfNone result (HasNoToken (drop start bytes.now)) }
+{
+    let rest = from_place(bytes, start);
+    let len = first_token(rest)?;
+    if len > LONGEST_WORD {
+        return None;
+    }
+    let end = start + len;
+    let kind = kind_of(&bytes[start..end]);
+    Some(Token {
+        kind,
+        start: start as u32,
+        end: end as u32,
+    })
+}
+
+/// The tokens of a text; `None` exactly where some byte begins no token, a word has more than 64
+/// bytes, or more than 200 brackets are open at once. One pass.
+pub fn lex(alloc: Global, bytes: &[u8]) -> Result<Option<Vec<Token>>, NoMemory>
+    requires { length bytes.now < 2 ^ 32 }
+    ensures some { IfOk result (λ r. IfSome r (λ tokens. IsLexed bytes.now (all_seen bytes.now tokens.items))) }
+    ensures within { IfOk result (λ r. IfSome r (λ tokens. All (IsWithin bytes.now) tokens.items)) }
+    ensures none { IfOk result (λ r. IfNone r (IsNotLexed bytes.now)) }
+{
+    let mut tokens = Vec::new(alloc);
+    let mut at = 0;
+    let mut depth = 0;
+    loop {
+        let start = at + blanks(from_place(bytes, at));
+        if start == bytes.len() {
+            return Ok(Some(tokens));
+        }
+        let Some(token) = next_token(bytes, start) else {
+            return Ok(None);
+        };
+        depth = opened(depth, token.kind);
+        if depth > DEEPEST {
+            return Ok(None);
+        }
+        tokens.push(token)?;
+        at = token.end as usize;
+    }
+}
+
+/// A text has at most one list of tokens.
+pub fn one_token_list()
+    ensures { OneTokenList }
+{}

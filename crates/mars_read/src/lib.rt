@@ -1,0 +1,15 @@
+//! Reading: from the bytes of an input to what they say.
+#![tactic(auto)]
+
+mod bytes;
+mod cursor;
+mod first;
+mod lexer;
+mod reader;
+mod refusal;
+mod token;
+
+pub use first::{First, FirstPut};
+pub use lexer::{lex, one_token_list};
+pub use reader::{one_script, read_first};
+pub use token::{Kind, Token, behind, text_of};
