@@ -1,0 +1,74 @@
+-- A graph of rows that has grown by the fresh nodes of a tree.
+use Rattle.std.proofs.Common.{◌≡◌, ℕ, zero, suc, ◌<◌, ◌≤◌, ◌+◌, Bool, true, false, cond, is_none, unwrap_or, map, List, [], ◌∷◌, ◌++◌, length, Option, Some, None, refl, sym, subst, ap, ◌∙◌, arith}
+use Rattle.std.specs.Option.{option_map}
+use Rattle.std.specs.List.{cons_option, filter_map, flat_map, range_with_len}
+use Rattle.std.proofs.lemmas.List.Elements.{All-head}
+use Rattle.mars_tree.specs.Canonical.{mentions}
+use Rattle.mars_tree.proofs.Numbering.{known_after_bounds}
+use Rattle.mars_tree.specs.declared.label.Label.{Label}
+use Rattle.mars_table.specs.Finding.{find_row}
+use Rattle.mars_tree.specs.Graph.{Node, IsGraph, IsGround, label_of, kids_of, labelled}
+use Rattle.mars_table.specs.Rows.{Row, HasRow, SameRow}
+use Rattle.mars_table.specs.Object.{number_of, fresh_before, fresh_row, fresh_rows}
+use Rattle.mars_table.specs.TableInside.{as_row, rows_from, rows_of, AreApart}
+use Rattle.mars_table.specs.TableLaws.{InternsTrees}
+use Rattle.mars_table.specs.TreeGraph.{IsTreeGraph}
+use Rattle.mars_table.proofs.Added.{intern_means}
+use Rattle.mars_table.proofs.Stored.{closed_stored, apart_stored, below_stored, has_stored, stored_in, tree_stored}
+
+cons_option-append : (o : Option Row) (xs ys : List Row) → cons_option o (xs ++ ys) ≡ cons_option o xs ++ ys
+cons_option-append None xs ys = refl
+cons_option-append (Some x) xs ys = refl
+
+-- further nodes are further rows
+pub rows_from-append : (b c : ℕ) (g h : List Node) → c ≡ b + length g → rows_from b (g ++ h) ≡ rows_from b g ++ rows_from c h
+rows_from-append b c [] h e = ap (λ n. rows_from n h) (omega arith)
+rows_from-append b c (node ∷ g) h e =
+    ap (cons_option (as_row b node)) (rows_from-append (b + 1) c g h (omega arith)) ∙ cons_option-append (as_row b node) (rows_from (b + 1) g) (rows_from c h)
+
+module _ (g tree grown : List Node) (g_is : IsGraph g) (ground : IsGround g) (apart : AreApart g) (is_tree : IsTreeGraph tree)
+    (grown_is : IsGraph grown) (grown_ground : IsGround grown) (e : rows_of grown ≡ rows_of g ++ fresh_rows (rows_of g) (length g) tree) where
+  interned : InternsTrees (rows_of g) (length g) tree
+  interned =
+      intern_means (rows_of g) (length g) tree (closed_stored g g_is ground) (apart_stored g g_is ground apart) (below_stored g ground)
+      is_tree.graph is_tree.labels is_tree.canonical.distinct
+
+  -- no two nodes are the same tree
+  pub grown_apart : AreApart grown
+  grown_apart i j i_in j_in same =
+      interned.apart i j (subst (λ (rows : List Row). HasRow rows i) e (has_stored grown grown_is grown_ground i i_in)) (subst (λ (rows : List Row). HasRow rows j) e (has_stored grown grown_is grown_ground j j_in))
+      (subst (λ (rows : List Row). SameRow rows i rows j) e (λ path. tree_stored grown grown_is grown_ground i i_in path ∙ same path ∙ sym (tree_stored grown grown_is grown_ground j j_in path)))
+
+  -- each node of the tree has the number of a node
+  pub number_in : (n : ℕ) → n < length tree → number_of (rows_of g) (length g) tree n < length grown
+  number_in n n_in =
+      let h : ℕ = number_of (rows_of g) (length g) tree n in
+      stored_in grown grown_is grown_ground h (subst (λ (rows : List Row). HasRow rows h) (sym e) (interned.trees n n_in).0)
+
+-- not more nodes are fresh than there are
+pub fresh_within : (rows : List Row) (tree : List Node) (n : ℕ) → fresh_before rows tree n ≤ n
+fresh_within rows tree zero = omega arith
+fresh_within rows tree (suc n) = either (is_none (find_row rows tree n)) (fresh_within rows tree n)
+  where
+    either : (b : Bool) → fresh_before rows tree n ≤ n → fresh_before rows tree n + cond b 1 0 ≤ suc n
+    either true le = omega (arith, le)
+    either false le = omega (arith, le)
+
+-- a leaf that is not there adds its row
+pub one_fresh : (g : List Node) (l : Label) (tree : List Node) → length tree ≡ 1 → kids_of tree 0 ≡ [] → label_of tree 0 ≡ Some l → None ≡ find_row (rows_of g) tree 0 →
+    rows_of (g ++ labelled l [] ∷ []) ≡ rows_of g ++ fresh_rows (rows_of g) (length g) tree
+one_fresh g l tree one kids label e =
+    let rows : List Row = rows_of g in
+    let next : ℕ = length g in
+    let node : ℕ → List ℕ → Option Row = λ number ks. Some (record { number = number; label = l; kids = ks }) in
+    let number : number_of rows next tree 0 ≡ length g = ap (λ (o : Option ℕ). unwrap_or o (next + 0)) (sym e) ∙ omega arith in
+    let fresh : node (length g) [] ≡ fresh_row rows next tree 0 =
+    ap (λ n. node n []) (sym number) ∙ ap (λ ks. node (number_of rows next tree 0) (map (number_of rows next tree) ks)) (sym kids)
+    ∙ ap (option_map (λ (l : Label). record { number = number_of rows next tree 0; label = l; kids = map (number_of rows next tree) (kids_of tree 0) })) (sym label)
+    ∙ ap (λ (o : Option ℕ). cond (is_none o) (option_map (λ (l : Label). record { number = number_of rows next tree 0; label = l; kids = map (number_of rows next tree) (kids_of tree 0) }) (label_of tree 0)) None) e in
+    rows_from-append 0 (length g) g (labelled l [] ∷ []) (omega arith)
+    ∙ ap (λ ys. rows ++ ys) (ap (λ (o : Option Row). cons_option o []) fresh ∙ ap (λ n. filter_map (fresh_row rows next tree) (range_with_len 0 n)) (sym one))
+
+-- a tree has a root
+pub tree_some : (tree : List Node) → IsTreeGraph tree → 0 < length tree
+tree_some tree is = All-head (λ x. x < length tree) 0 (flat_map (λ (node : Node). node.kids) tree) (known_after_bounds 0 (length tree) (mentions (0 ∷ []) tree) is.canonical.in_order).1

@@ -1,0 +1,9 @@
+pub mod Added
+pub mod Distinct
+pub mod Found
+pub mod Grown
+pub mod Leaf
+pub mod RowFacts
+pub mod FoundNodes
+pub mod Stored
+pub mod Swept

@@ -1,0 +1,31 @@
+use Rattle.std.proofs.Common.{◌≡◌, ℕ, ◌<◌, [], ◌∷◌, ◌++◌, length, All, ap, subst, sym, ◌∙◌, arith}
+use Rattle.std.proofs.lemmas.List.Elements.{All-append, All-cons, All-nil, All-weaker}
+use Rattle.mars_table.specs.Object.{TableObject}
+use Rattle.mars_table.specs.TableInside.{rows_of}
+use Rattle.mars_table.proofs.Grown.{grown_apart, number_in, fresh_within, tree_some}
+use Rattle.mars_table.proofs.Stored.{length-stored}
+use Rattle.mars_table.proofs.table.Table.keep.Goals as goal
+
+pub invariant_of-self-2 : goal.invariant_of-self-2
+invariant_of-self-2 c =
+    let p = c.self.inside in
+    let i = c.self.invariant in
+    let g = c.in_ok-row.ensures in
+    let tree = c.args.tree.now in
+    let some : 0 < length tree = tree_some tree c.requires.tree in
+    let root : c.in_ok-row.row < length c.grow.new.rows =
+    subst (λ (n : ℕ). n < length c.grow.new.rows) (sym g.root) (number_in p.rows tree c.grow.new.rows i.graph i.labels i.apart c.requires.tree g.graph g.labels g.rows 0 some) in
+    let pins : c.push_reserved.new.self.items ≡ p.pins.items ++ (c.args.who, c.in_ok-row.row) ∷ [] = c.push_reserved.ensures.items ∙ ap (λ xs. xs ++ (c.args.who, c.in_ok-row.row) ∷ []) c.in_ok-reserve.ensures.items in
+    let old : length (rows_of p.rows) ≡ length c.args.self.now.rows = ap (λ (t : TableObject). length t.rows) c.self.view_is in
+    let limit : p.cap ≡ c.args.self.now.limit = ap (λ (t : TableObject). t.limit) c.self.view_is in
+    let fresh = fresh_within (rows_of p.rows) tree (length tree) in
+    record {
+      graph = g.graph;
+      labels = g.labels;
+      apart = grown_apart p.rows tree c.grow.new.rows i.graph i.labels i.apart c.requires.tree g.graph g.labels g.rows;
+      pinned = subst (All (λ (pin : ℕ × ℕ). pin.1 < length c.grow.new.rows)) (sym pins)
+          (All-append (λ (pin : ℕ × ℕ). pin.1 < length c.grow.new.rows) p.pins.items ((c.args.who, c.in_ok-row.row) ∷ [])
+          (All-weaker (λ (pin : ℕ × ℕ). pin.1 < length p.rows) (λ (pin : ℕ × ℕ). pin.1 < length c.grow.new.rows) (λ pin lt. omega (arith, lt, g.count)) p.pins.items i.pinned)
+          (All-cons (λ (pin : ℕ × ℕ). pin.1 < length c.grow.new.rows) (c.args.who, c.in_ok-row.row) [] root (All-nil (λ (pin : ℕ × ℕ). pin.1 < length c.grow.new.rows))));
+      within = omega (arith, g.count, fresh, c.requires.room, old, limit, length-stored 0 p.rows i.labels);
+    }

@@ -1,0 +1,19 @@
+-- Trees by their canonical graphs, and what interning makes of the tree of a node.
+use Rattle.std.specs.Prelude.{◌≡◌, ℕ, List, [], ◌∷◌}
+use Rattle.mars_tree.specs.Graph.{Node, IsGraph, IsGround, Same}
+use Rattle.mars_tree.specs.Canonical.{IsCanonical}
+use Rattle.mars_table.specs.Object.{TableObject, intern}
+use Rattle.mars_table.specs.Object.Interned.{kept}
+
+-- the canonical graph, with root 0, of a tree without free leaves
+pub record IsTreeGraph (g : List Node) : Type 0 where
+  pub graph : IsGraph g
+  pub labels : IsGround g
+  pub canonical : IsCanonical g (0 ∷ [])
+
+-- `who` interns the tree of node `root` as number `h`: the table's answer for that tree's canonical graph
+pub record InternsTo (old : TableObject) (who : ℕ) (g : List Node) (root h : ℕ) (new : TableObject) : Type 0 where
+  pub tree : List Node
+  pub is_tree : IsTreeGraph tree
+  pub same : Same tree 0 g root
+  pub kept : intern old who tree ≡ kept h new

@@ -1,0 +1,17 @@
+// Laws of the table object.
+ghost use Rattle.mars_table.specs.TableLaws.{FindMeans, InternMeans, SweepMeans};
+
+/// A row is found exactly where it is the same tree.
+pub fn find_means()
+    ensures { FindMeans }
+{}
+
+/// Interning adds rows for the nodes that have none, and keeps trees apart.
+pub fn intern_means()
+    ensures { InternMeans }
+{}
+
+/// A sweep keeps the rows that a walk along kids from a pin meets, and no others.
+pub fn sweep_means()
+    ensures { SweepMeans }
+{}

@@ -1,0 +1,90 @@
+// The table as one graph whose nodes are the rows, in the order of their numbers.
+ghost use Rattle.std.specs.Prelude.{◌≡◌, ◌+◌, ◌≤◌, ◌<◌, [], length, IfOk, OnErr};
+ghost use Rattle.mars_tree.specs.Graph.{kids_of};
+ghost use Rattle.mars_table.specs.Object.{empty_table, intern, Interned};
+ghost use Rattle.mars_table.specs.Reach.{ReachesNoFree};
+ghost use Rattle.mars_table.specs.Sound.{IsSound};
+ghost use Rattle.mars_table.specs.TreeGraph.{IsTreeGraph, InternsTo};
+
+use crate::canonical::canonical;
+use crate::rows::grow;
+use mars_base::NoMemory;
+use mars_tree::Graph;
+use std::alloc::Global;
+use std::marker::Model;
+
+/// The number of a row.
+#[derive(Clone, Copy, Debug, PartialEq, Eq, PartialOrd, Ord, Hash)]
+pub struct Handle(pub u128);
+
+/// Trees under numbers, each tree once, and the pins of callers on them.
+#[derive(Drop)]
+pub struct Table {
+    rows: Graph,
+    pins: Vec<(u32, u128)>,
+    cap: u64,
+    alloc: Global,
+}
+
+impl Model for Table {
+    ghost use Rattle.mars_table.specs.Object.{TableObject};
+
+    ghost Value = { TableObject };
+
+    ghost use Rattle.mars_table.specs.TableInside.{table_of, IsKept};
+
+    ghost view = { table_of };
+
+    ghost invariant = { IsKept };
+}
+
+impl Table {
+    /// An empty table of at most `cap` rows.
+    pub fn new(alloc: Global, cap: u64) -> Table
+        ensures { result ≡ empty_table cap }
+    {
+        Table {
+            rows: Graph::new(alloc),
+            pins: Vec::new(alloc),
+            cap,
+            alloc,
+        }
+    }
+
+    /// Keeps the tree of a node, with a pin of `who` on it: under its old number where the tree is there.
+    pub fn intern(&mut self, who: u32, graph: &Graph, root: usize) -> Result<Handle, NoMemory>
+        requires root_in { root < length graph.now }
+        requires no_free_leaf { ReachesNoFree graph.now root }
+        requires no_kids { kids_of graph.now root ≡ [] }
+        requires room { length self.old.rows + length graph.now ≤ self.old.limit }
+        ensures kept { IfOk result (λ handle. InternsTo self.old who graph.now root handle.0 self.new) }
+        ensures as_before { OnErr result (self.new ≡ self.old) }
+    {
+        let tree = canonical(self.alloc, graph, root)?;
+        self.keep(who, &tree)
+    }
+
+    /// Keeps a tree that is given by its canonical graph.
+    fn keep(&mut self, who: u32, tree: &Graph) -> Result<Handle, NoMemory>
+        requires tree { IsTreeGraph tree.now }
+        requires one { length tree.now ≡ 1 }
+        requires leaf { kids_of tree.now 0 ≡ [] }
+        requires room { length self.old.rows + length tree.now ≤ self.old.limit }
+        ensures kept { IfOk result (λ handle. intern self.old who tree.now ≡ Interned.kept handle.0 self.new) }
+        ensures as_before { OnErr result (self.new ≡ self.old) }
+    {
+        self.pins.reserve(1)?;
+        let row = grow(self.alloc, &mut self.rows, tree)?;
+        self.pins.push_reserved((who, row as u128));
+        Ok(Handle(row as u128))
+    }
+
+    /// How many rows and how many pins there are.
+    pub fn counts(&self) -> (u64, u64)
+        ensures rows { result.0 ≡ length self.now.rows }
+        ensures pins { result.1 ≡ length self.now.pins }
+        ensures sound { IsSound self.now }
+    {
+        (self.rows.len() as u64, self.pins.len() as u64)
+    }
+}
