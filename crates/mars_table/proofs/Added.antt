@@ -160,7 +160,7 @@ module _ (rows : List Row) (next : ℕ) (g : List Node) (closed : IsClosed rows)
       (r.0, r.1, new_row rows (fresh_rows rows next g) (number_of rows next g n) next below past ∙ fresh_found 0 (length g) n r.0 (omega arith) (omega arith) (omega arith) e r.1)
 
   -- an old row has its label and its kids
-  old_has : (h : ℕ) → HasRow rows h → HasRow (rows ++ fresh_rows rows next g) h × (label_of_row (rows ++ fresh_rows rows next g) h ≡ label_of_row rows h) × (kids_of_row (rows ++ fresh_rows rows next g) h ≡ kids_of_row rows h)
+  pub old_has : (h : ℕ) → HasRow rows h → HasRow (rows ++ fresh_rows rows next g) h × (label_of_row (rows ++ fresh_rows rows next g) h ≡ label_of_row rows h) × (kids_of_row (rows ++ fresh_rows rows next g) h ≡ kids_of_row rows h)
   old_has h has =
       let row = some_of (row_at rows h) has in
       let e : row_at (rows ++ fresh_rows rows next g) h ≡ row_at rows h = old_row rows (fresh_rows rows next g) h row.0 row.1 ∙ sym row.1 in
@@ -200,7 +200,7 @@ module _ (rows : List Row) (next : ℕ) (g : List Node) (closed : IsClosed rows)
       )
 
   -- each node has a row under its number, with its label and the numbers of its kids
-  has_number : (n : ℕ) → n < length g → HasRow (rows ++ fresh_rows rows next g) (number_of rows next g n) × (label_of_row (rows ++ fresh_rows rows next g) (number_of rows next g n) ≡ label_of g n)
+  pub has_number : (n : ℕ) → n < length g → HasRow (rows ++ fresh_rows rows next g) (number_of rows next g n) × (label_of_row (rows ++ fresh_rows rows next g) (number_of rows next g n) ≡ label_of g n)
       × (kids_of_row (rows ++ fresh_rows rows next g) (number_of rows next g n) ≡ map (number_of rows next g) (kids_of g n))
   has_number n n_in = elim (none_or_some (find_row rows g n)) [
     | inl none ↦
@@ -230,7 +230,7 @@ module _ (rows : List Row) (next : ℕ) (g : List Node) (closed : IsClosed rows)
       }) (number_of rows next g n) n (n_in, refl)
 
   -- a row is an old one, or that of a node without one
-  old_or_node : (h : ℕ) → HasRow (rows ++ fresh_rows rows next g) h → HasRow rows h ⊎ ((n : ℕ) × (n < length g) × (find_row rows g n ≡ None) × (number_of rows next g n ≡ h))
+  pub old_or_node : (h : ℕ) → HasRow (rows ++ fresh_rows rows next g) h → HasRow rows h ⊎ ((n : ℕ) × (n < length g) × (find_row rows g n ≡ None) × (number_of rows next g n ≡ h))
   old_or_node h has = elim (old_or_new rows (fresh_rows rows next g) h has) [
     | inl old ↦ inl old
     | inr new ↦

@@ -3,6 +3,7 @@ pub mod Distinct
 pub mod Found
 pub mod Grown
 pub mod Leaf
+pub mod Pinned
 pub mod RowFacts
 pub mod FoundNodes
 pub mod Stored

@@ -1,4 +1,5 @@
 // Laws of the table object.
+ghost use Rattle.mars_table.specs.Met.{InternKeepsMet, SweepKeepsMet};
 ghost use Rattle.mars_table.specs.TableLaws.{FindMeans, InternMeans, SweepMeans};
 
 /// A row is found exactly where it is the same tree.
@@ -14,4 +15,14 @@ pub fn intern_means()
 /// A sweep keeps the rows that a walk along kids from a pin meets, and no others.
 pub fn sweep_means()
     ensures { SweepMeans }
+{}
+
+/// Where each row is met by a walk from a pin, interning leaves it so.
+pub fn intern_keeps_met()
+    ensures { InternKeepsMet }
+{}
+
+/// Where each row is met by a walk from a pin, a sweep takes nothing away.
+pub fn sweep_keeps_met()
+    ensures { SweepKeepsMet }
 {}

@@ -1,0 +1,134 @@
+-- Rows that walks from pins meet, behind an interning and behind a sweep.
+use Rattle.std.proofs.Common.{◌≡◌, ℕ, zero, suc, ◌<◌, ◌+◌, Bool, true, false, cond, nat_eq, nat_lt, List, [], ◌∷◌, ◌++◌, length, take, filter, Option, Some, None, option_and_then, slice_get, refl, sym, subst, ap, ◌∙◌, arith, inl, inr, All, IsSome, Contains, eq-eqb}
+use Rattle.std.specs.Option.{option_map}
+use Rattle.std.specs.List.{flat_map}
+use Rattle.std.proofs.lemmas.Option.{option_and_then_some, same_Some, slice_get-get_or, slice_get-map}
+use Rattle.std.proofs.lemmas.List.Elements.{All-contains, Contains-append_left, Contains-append_cases, Contains-push, filter_passes}
+use Rattle.mars_tree.specs.Graph.{Node, IsGraph, IsGround, kids_of, end_of, Same}
+use Rattle.mars_tree.specs.Canonical.{IsCanonical}
+use Rattle.mars_tree.proofs.Walks.{walk-push}
+use Rattle.mars_tree.proofs.Paths.{kid_in}
+use Rattle.mars_table.specs.Rows.{Row, row_at, HasRow, kids_of_row, row_end}
+use Rattle.mars_table.specs.Object.{TableObject, fresh_before, fresh_rows, number_of, sweep, is_met}
+use Rattle.mars_table.specs.Object.Interned.{kept, full}
+use Rattle.mars_table.specs.Sound.{IsClosed, IsApart, IsMet}
+use Rattle.mars_table.specs.Met.{AreMet, InternKeepsMet, SweepKeepsMet}
+use Rattle.mars_table.proofs.RowFacts.{some_of, number_at, kid_is_row, All-find}
+use Rattle.mars_table.proofs.Added.{old_has, has_number, old_or_node}
+use Rattle.mars_table.proofs.Swept.{sweep_means}
+
+contains_get : (xs : List ℕ) (x : ℕ) → Contains xs x → (k : ℕ) × (slice_get xs k ≡ Some x)
+contains_get xs x (k, lt, e) = (k, slice_get-get_or xs k x lt ∙ ap (λ y. Some y) e)
+
+-- a kid of one of the first nodes
+kid_of_first : (g : List Node) (i x : ℕ) → Contains (flat_map (λ node. node.kids) (take i g)) x → (m : ℕ) × (m < i) × (m < length g) × (k : ℕ) × (slice_get (kids_of g m) k ≡ Some x)
+kid_of_first [] zero x c = absurd (let k = contains_get [] x c in let e : None ≡ Some x = k.1 in cc)
+kid_of_first [] (suc i) x c = absurd (let k = contains_get [] x c in let e : None ≡ Some x = k.1 in cc)
+kid_of_first (node ∷ g) zero x c = absurd (let k = contains_get [] x c in let e : None ≡ Some x = k.1 in cc)
+kid_of_first (node ∷ g) (suc i) x c = elim (Contains-append_cases node.kids (flat_map (λ node. node.kids) (take i g)) x c) [
+  | inl here ↦ let k = contains_get node.kids x here in (0, omega arith, omega arith, k.0, k.1)
+  | inr there ↦ let r = kid_of_first g i x there in (suc r.0, omega (arith, r.1), omega (arith, r.2), r.3, r.4)
+]
+
+-- each node of a canonical graph is at the end of a path from the root
+reached_below : (g : List Node) → IsCanonical g (0 ∷ []) → (bound i : ℕ) → i < bound → i < length g → (path : List ℕ) × (end_of g 0 path ≡ Some i)
+reached_below g is zero i lt i_in = absurd (omega arith)
+reached_below g is (suc bound) i lt i_in = elim (Contains-append_cases (0 ∷ []) (flat_map (λ node. node.kids) (take i g)) i (is.early i i_in)) [
+  | inl root ↦ first (contains_get (0 ∷ []) i root)
+  | inr kid ↦
+      let m = kid_of_first g i i kid in
+      let r = reached_below g is bound m.0 (omega (arith, m.1)) m.2 in
+      (r.0 ++ m.3 ∷ [], walk-push (kids_of g) 0 m.0 i m.3 r.0 r.1 m.4)
+]
+  where
+    first : (k : ℕ) × (slice_get (0 ∷ []) k ≡ Some i) → (path : List ℕ) × (end_of g 0 path ≡ Some i)
+    first (zero, e) = ([], e)
+    first (suc k, e) = absurd (let e' : None ≡ Some i = e in cc)
+
+module _ (rows : List Row) (next : ℕ) (g : List Node) (closed : IsClosed rows) (apart : IsApart rows) (below : All (λ row. row.number < next) rows)
+    (g_is : IsGraph g) (ground : IsGround g) (distinct : (i j : ℕ) → i < length g → j < length g → Same g i g j → i ≡ j) where
+  -- a walk over old rows stays
+  stays : (path : List ℕ) (n h : ℕ) → HasRow rows n → row_end rows n path ≡ Some h → row_end (rows ++ fresh_rows rows next g) n path ≡ Some h
+  stays [] n h has e = e
+  stays (k ∷ path) n h has e =
+      option_and_then_some (λ m. row_end rows m path) (slice_get (kids_of_row rows n) k) h e (λ m first rest.
+      ap (λ xs. option_and_then (λ kid. row_end (rows ++ fresh_rows rows next g) kid path) (slice_get xs k)) (old_has rows next g closed apart below g_is ground distinct n has).2 ∙
+      ap (option_and_then (λ kid. row_end (rows ++ fresh_rows rows next g) kid path)) first ∙
+      stays path m h (kid_is_row rows n k m closed has first) rest)
+
+  -- a walk over nodes is one over their rows
+  carries : (path : List ℕ) (a b : ℕ) → a < length g → end_of g a path ≡ Some b → row_end (rows ++ fresh_rows rows next g) (number_of rows next g a) path ≡ Some (number_of rows next g b)
+  carries [] a b a_in e = ap (λ n. Some (number_of rows next g n)) (same_Some a b e)
+  carries (k ∷ path) a b a_in e =
+      option_and_then_some (λ m. end_of g m path) (slice_get (kids_of g a) k) b e (λ m first rest.
+      ap (λ xs. option_and_then (λ kid. row_end (rows ++ fresh_rows rows next g) kid path) (slice_get xs k)) (has_number rows next g closed apart below g_is ground distinct a a_in).2 ∙
+      ap (option_and_then (λ kid. row_end (rows ++ fresh_rows rows next g) kid path)) (slice_get-map (number_of rows next g) (kids_of g a) k ∙ ap (option_map (number_of rows next g)) first) ∙
+      carries path m b (kid_in g a k m g_is a_in first) rest)
+
+-- what is kept is the table with the fresh rows and the pin
+kept_is : (b : Bool) (r f l root h : ℕ) (new t : TableObject) → cond b (full r f l) (kept root new) ≡ kept h t → (root ≡ h) × (new ≡ t)
+kept_is true r f l root h new t e = absurd cc
+kept_is false r f l root h new t e = (cc, cc)
+
+pub intern_keeps_met : InternKeepsMet
+intern_keeps_met t new who h g sound met is e =
+    let root : ℕ = number_of t.rows t.next g 0 in
+    let fresh : ℕ = fresh_before t.rows g (length g) in
+    let after : TableObject = record {
+      rows = t.rows ++ fresh_rows t.rows t.next g;
+      pins = t.pins ++ (who, root) ∷ [];
+      next = t.next + fresh;
+      limit = t.limit;
+    } in
+    let same : after ≡ new = (kept_is (nat_lt t.limit (length t.rows + fresh)) (length t.rows) fresh t.limit root h after new e).1 in
+    let by = λ (n : ℕ) (has : HasRow after.rows n).
+    elim (old_or_node t.rows t.next g sound.closed sound.apart sound.below is.graph is.labels is.canonical.distinct n has) as (λ w. IsMet after n) [
+      | inl old ↦
+          let m = met n old in record {
+            pin = m.pin;
+            pinned = Contains-append_left t.pins ((who, root) ∷ []) m.pin m.pinned;
+            path = m.path;
+            meets = stays t.rows t.next g sound.closed sound.apart sound.below is.graph is.labels is.canonical.distinct m.path m.pin.1 n
+                (All-contains (λ (pin : ℕ × ℕ). HasRow t.rows pin.1) t.pins m.pin sound.pins m.pinned) m.meets;
+          }
+      | inr w ↦
+          let r = reached_below g is.canonical (suc w.0) w.0 (omega arith) w.1 in
+          record {
+            pin = (who, root);
+            pinned = Contains-push t.pins (who, root);
+            path = r.0;
+            meets = carries t.rows t.next g sound.closed sound.apart sound.below is.graph is.labels is.canonical.distinct r.0 0 w.0 (omega (arith, w.1)) r.1 ∙ ap (λ n. Some n) w.3;
+          }
+    ] in
+    subst AreMet same by
+
+-- a filter by number that takes a row shows that the number passes
+passes : (q : ℕ → Bool) (rows : List Row) (h : ℕ) → HasRow (filter (λ row. q row.number) rows) h → q h ≡ true
+passes q rows h has =
+    let row = some_of (row_at (filter (λ row. q row.number) rows) h) has in
+    ap q (sym (number_at (filter (λ row. q row.number) rows) h row.0 row.1)) ∙
+    All-find (λ row. q row.number ≡ true) (λ row. nat_eq row.number h) (filter (λ row. q row.number) rows) row.0 (filter_passes (λ row. q row.number) rows) row.1
+
+-- a row is found under its own number
+own_row : (rows : List Row) (i : ℕ) (row : Row) → slice_get rows i ≡ Some row → HasRow rows row.number
+own_row [] i row e = absurd (let e' : None ≡ Some row = e in cc)
+own_row (r ∷ rows) zero row e =
+    let same : nat_eq r.number row.number ≡ true = eq-eqb r.number row.number (ap (λ (x : Row). x.number) (same_Some r row e)) in
+    subst (λ (b : Bool). IsSome (cond b (Some r) (row_at rows row.number))) (sym same) refl
+own_row (r ∷ rows) (suc i) row e = either (nat_eq r.number row.number) (row_at rows row.number) (own_row rows i row e)
+  where
+    either : (b : Bool) (o : Option Row) → IsSome o → IsSome (cond b (Some r) o)
+    either true o is = refl
+    either false o is = is
+
+-- a filter that all pass
+filter-all : (p : Row → Bool) (rows : List Row) → ((i : ℕ) (row : Row) → slice_get rows i ≡ Some row → p row ≡ true) → filter p rows ≡ rows
+filter-all p [] each = refl
+filter-all p (r ∷ rows) each = ap (λ b. cond b (r ∷ filter p rows) (filter p rows)) (each 0 r refl) ∙ ap (λ rs. r ∷ rs) (filter-all p rows (λ i. each (suc i)))
+
+pub sweep_keeps_met : SweepKeepsMet
+sweep_keeps_met t sound met =
+    let means = sweep_means t sound.closed sound.pins in
+    let same : (sweep t).rows ≡ t.rows = filter-all (λ row. is_met t row.number) t.rows (λ i row at.
+    passes (is_met t) t.rows row.number ((means.0 row.number).1 (met row.number (own_row t.rows i row at)))) in
+    ap (λ rows. record t { rows = rows }) same

@@ -1,0 +1,20 @@
+-- Tables without a row to sweep: each row is met by a walk along kids from a pin.
+use Rattle.std.specs.Prelude.{◌≡◌, ℕ, List}
+use Rattle.mars_tree.specs.Graph.{Node}
+use Rattle.mars_table.specs.Rows.{HasRow}
+use Rattle.mars_table.specs.Object.{TableObject, intern, sweep}
+use Rattle.mars_table.specs.Object.Interned.{kept}
+use Rattle.mars_table.specs.Sound.{IsSound, IsMet}
+use Rattle.mars_table.specs.TreeGraph.{IsTreeGraph}
+
+-- a walk from a pin meets each row
+abbrev pub AreMet : TableObject → Type 0
+AreMet t = (h : ℕ) → HasRow t.rows h → IsMet t h
+
+-- what is interned is met from the pin that it is given
+abbrev pub InternKeepsMet : Type 0
+InternKeepsMet = (t new : TableObject) (who h : ℕ) (g : List Node) → IsSound t → AreMet t → IsTreeGraph g → intern t who g ≡ kept h new → AreMet new
+
+-- a sweep leaves such a table as it is
+abbrev pub SweepKeepsMet : Type 0
+SweepKeepsMet = (t : TableObject) → IsSound t → AreMet t → sweep t ≡ t
