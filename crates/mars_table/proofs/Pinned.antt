@@ -8,13 +8,17 @@ use Rattle.mars_tree.specs.Graph.{Node, IsGraph, IsGround, kids_of, end_of, Same
 use Rattle.mars_tree.specs.Canonical.{IsCanonical}
 use Rattle.mars_tree.proofs.Walks.{walk-push}
 use Rattle.mars_tree.proofs.Paths.{kid_in}
-use Rattle.mars_table.specs.Rows.{Row, row_at, HasRow, kids_of_row, row_end}
+use Rattle.mars_tree.proofs.Unique.{roots_in}
+use Rattle.mars_table.specs.Rows.{Row, row_at, HasRow, kids_of_row, row_end, IsTree}
 use Rattle.mars_table.specs.Object.{TableObject, fresh_before, fresh_rows, number_of, sweep, is_met}
+use Rattle.mars_table.specs.Object.{intern}
+use Rattle.mars_table.specs.TreeGraph.{IsTreeGraph}
 use Rattle.mars_table.specs.Object.Interned.{kept, full}
 use Rattle.mars_table.specs.Sound.{IsClosed, IsApart, IsMet}
+use Rattle.mars_table.specs.Lasting.{KeepsTrees, InternKeepsTrees}
 use Rattle.mars_table.specs.Met.{AreMet, InternKeepsMet, SweepKeepsMet}
 use Rattle.mars_table.proofs.RowFacts.{some_of, number_at, kid_is_row, All-find}
-use Rattle.mars_table.proofs.Added.{old_has, has_number, old_or_node}
+use Rattle.mars_table.proofs.Added.{old_has, has_number, old_or_node, intern_means}
 use Rattle.mars_table.proofs.Swept.{sweep_means}
 
 contains_get : (xs : List ℕ) (x : ℕ) → Contains xs x → (k : ℕ) × (slice_get xs k ≡ Some x)
@@ -65,28 +69,45 @@ module _ (rows : List Row) (next : ℕ) (g : List Node) (closed : IsClosed rows)
       ap (option_and_then (λ kid. row_end (rows ++ fresh_rows rows next g) kid path)) (slice_get-map (number_of rows next g) (kids_of g a) k ∙ ap (option_map (number_of rows next g)) first) ∙
       carries path m b (kid_in g a k m g_is a_in first) rest)
 
--- what is kept is the table with the fresh rows and the pin
-kept_is : (b : Bool) (r f l root h : ℕ) (new t : TableObject) → cond b (full r f l) (kept root new) ≡ kept h t → (root ≡ h) × (new ≡ t)
-kept_is true r f l root h new t e = absurd cc
-kept_is false r f l root h new t e = (cc, cc)
+-- the table behind an interning: the fresh rows and the pin
+abbrev pub grown : TableObject → ℕ → List Node → TableObject
+grown t who g = record {
+  rows = t.rows ++ fresh_rows t.rows t.next g;
+  pins = t.pins ++ (who, number_of t.rows t.next g 0) ∷ [];
+  next = t.next + fresh_before t.rows g (length g);
+  limit = t.limit;
+}
+
+chosen_kept : (b : Bool) (r f l root h : ℕ) (new t : TableObject) → cond b (full r f l) (kept root new) ≡ kept h t → (root ≡ h) × (new ≡ t)
+chosen_kept true r f l root h new t e = absurd cc
+chosen_kept false r f l root h new t e = (cc, cc)
+
+pub intern_kept : (t new : TableObject) (who h : ℕ) (g : List Node) → intern t who g ≡ kept h new → (number_of t.rows t.next g 0 ≡ h) × (grown t who g ≡ new)
+intern_kept t new who h g e =
+    chosen_kept (nat_lt t.limit (length t.rows + fresh_before t.rows g (length g))) (length t.rows) (fresh_before t.rows g (length g)) t.limit (number_of t.rows t.next g 0) h (grown t who g) new e
+
+-- the root is a node
+root_in : (g : List Node) → IsTreeGraph g → 0 < length g
+root_in g is = All-contains (λ r. r < length g) (0 ∷ []) 0 (roots_in g (0 ∷ []) is.canonical) (0, omega arith, refl)
+
+pub intern_keeps_trees : InternKeepsTrees
+intern_keeps_trees t new who h g sound is e =
+    let k = intern_kept t new who h g e in
+    let m = intern_means t.rows t.next g sound.closed sound.apart sound.below is.graph is.labels is.canonical.distinct in
+    let root = m.trees 0 (root_in g is) in (
+      subst (λ (n : TableObject). KeepsTrees t n) k.1 (λ n has. ((old_has t.rows t.next g sound.closed sound.apart sound.below is.graph is.labels is.canonical.distinct n has).0, m.kept n has)),
+      subst (λ (n : TableObject). HasRow n.rows h) k.1 (subst (λ (i : ℕ). HasRow (grown t who g).rows i) k.0 root.0),
+      subst (λ (n : TableObject). IsTree n.rows h g 0) k.1 (subst (λ (i : ℕ). IsTree (grown t who g).rows i g 0) k.0 root.1),
+    )
 
 pub intern_keeps_met : InternKeepsMet
 intern_keeps_met t new who h g sound met is e =
-    let root : ℕ = number_of t.rows t.next g 0 in
-    let fresh : ℕ = fresh_before t.rows g (length g) in
-    let after : TableObject = record {
-      rows = t.rows ++ fresh_rows t.rows t.next g;
-      pins = t.pins ++ (who, root) ∷ [];
-      next = t.next + fresh;
-      limit = t.limit;
-    } in
-    let same : after ≡ new = (kept_is (nat_lt t.limit (length t.rows + fresh)) (length t.rows) fresh t.limit root h after new e).1 in
-    let by = λ (n : ℕ) (has : HasRow after.rows n).
-    elim (old_or_node t.rows t.next g sound.closed sound.apart sound.below is.graph is.labels is.canonical.distinct n has) as (λ w. IsMet after n) [
+    let by = λ (n : ℕ) (has : HasRow (grown t who g).rows n).
+    elim (old_or_node t.rows t.next g sound.closed sound.apart sound.below is.graph is.labels is.canonical.distinct n has) as (λ w. IsMet (grown t who g) n) [
       | inl old ↦
           let m = met n old in record {
             pin = m.pin;
-            pinned = Contains-append_left t.pins ((who, root) ∷ []) m.pin m.pinned;
+            pinned = Contains-append_left t.pins ((who, number_of t.rows t.next g 0) ∷ []) m.pin m.pinned;
             path = m.path;
             meets = stays t.rows t.next g sound.closed sound.apart sound.below is.graph is.labels is.canonical.distinct m.path m.pin.1 n
                 (All-contains (λ (pin : ℕ × ℕ). HasRow t.rows pin.1) t.pins m.pin sound.pins m.pinned) m.meets;
@@ -94,13 +115,13 @@ intern_keeps_met t new who h g sound met is e =
       | inr w ↦
           let r = reached_below g is.canonical (suc w.0) w.0 (omega arith) w.1 in
           record {
-            pin = (who, root);
-            pinned = Contains-push t.pins (who, root);
+            pin = (who, number_of t.rows t.next g 0);
+            pinned = Contains-push t.pins (who, number_of t.rows t.next g 0);
             path = r.0;
-            meets = carries t.rows t.next g sound.closed sound.apart sound.below is.graph is.labels is.canonical.distinct r.0 0 w.0 (omega (arith, w.1)) r.1 ∙ ap (λ n. Some n) w.3;
+            meets = carries t.rows t.next g sound.closed sound.apart sound.below is.graph is.labels is.canonical.distinct r.0 0 w.0 (root_in g is) r.1 ∙ ap (λ n. Some n) w.3;
           }
     ] in
-    subst AreMet same by
+    subst AreMet (intern_kept t new who h g e).1 by
 
 -- a filter by number that takes a row shows that the number passes
 passes : (q : ℕ → Bool) (rows : List Row) (h : ℕ) → HasRow (filter (λ row. q row.number) rows) h → q h ≡ true

@@ -1,4 +1,5 @@
 pub mod Finding
+pub mod Lasting
 pub mod Met
 pub mod Object
 pub mod Reach

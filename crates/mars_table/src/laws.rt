@@ -1,4 +1,5 @@
 // Laws of the table object.
+ghost use Rattle.mars_table.specs.Lasting.{InternKeepsTrees};
 ghost use Rattle.mars_table.specs.Met.{InternKeepsMet, SweepKeepsMet};
 ghost use Rattle.mars_table.specs.TableLaws.{FindMeans, InternMeans, SweepMeans};
 
@@ -25,4 +26,9 @@ pub fn intern_keeps_met()
 /// Where each row is met by a walk from a pin, a sweep takes nothing away.
 pub fn sweep_keeps_met()
     ensures { SweepKeepsMet }
+{}
+
+/// Interning keeps the trees that are there, and its number is that of the tree.
+pub fn intern_keeps_trees()
+    ensures { InternKeepsTrees }
 {}

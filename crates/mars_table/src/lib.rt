@@ -7,5 +7,7 @@ mod rows;
 mod search;
 mod table;
 
-pub use laws::{find_means, intern_keeps_met, intern_means, sweep_keeps_met, sweep_means};
+pub use laws::{
+    find_means, intern_keeps_met, intern_keeps_trees, intern_means, sweep_keeps_met, sweep_means,
+};
 pub use table::{Handle, Table};
