@@ -1,0 +1,16 @@
+//! Systems of equations over rational trees: a store of nodes and bindings with a trail.
+#![tactic(auto)]
+
+mod laws;
+mod mark;
+mod node_id;
+mod nodes;
+mod store;
+
+pub use laws::{forced_shown, implied_shown, marks_nest, plain_decides, plain_solves};
+pub use mark::Mark;
+pub use node_id::NodeId;
+pub use store::Store;
+
+#[cfg(test)]
+mod tests;

@@ -1,0 +1,16 @@
+//! Numbers of nodes.
+use std::marker::Model;
+
+/// A node of a store: its number, counted from 0 in the order of adding.
+#[derive(Clone, Copy, Debug, PartialEq, Eq, PartialOrd, Ord, Hash)]
+pub struct NodeId(pub(crate) usize);
+
+impl Model for NodeId {
+    ghost use Rattle.std.specs.Prelude.{ℕ};
+
+    ghost Value = { ℕ };
+
+    ghost view = { λ node. node.0 };
+
+    ghost inverse = { λ n. record { 0 = n } };
+}

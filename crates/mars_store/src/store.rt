@@ -1,0 +1,190 @@
+//! A store of nodes and bindings, which stands for a system of equations.
+ghost use Rattle.std.specs.Prelude.{◌≡◌, ◌≢◌, ◌<◌, ◌≤◌, ◌++◌, ◌∷◌, [], length, slice_get, slice_set, Some, None, OnOk, OnErr, IfOk, All, MatchOption};
+ghost use Rattle.mars_tree.specs.Label.{arity_of};
+ghost use Rattle.mars_tree.specs.Graph.{arity_at, label_of, kids_of, labelled, free_leaf};
+ghost use Rattle.mars_store.specs.System.{IsSystem, IsUnbound, IsMark, resolve, linked, equation_of, with_node, mark_of, undone};
+ghost use Rattle.mars_store.specs.Laws.{IsForced, IsUnforced};
+
+use crate::mark::Mark;
+use crate::node_id::NodeId;
+use crate::nodes::Nodes;
+use mars_base::NoMemory;
+use mars_tree::Label;
+use std::alloc::Global;
+use std::marker::Model;
+
+/// A system of equations over its nodes, each a label over older nodes, or a variable that may be bound.
+/// A variable that isn't bound is linked to itself.
+#[derive(Drop)]
+pub struct Store {
+    nodes: Nodes,
+    links: Vec<usize>,
+    trail: Vec<(usize, usize)>,
+}
+
+impl Model for Store {
+    ghost use Rattle.mars_store.specs.System.{System};
+
+    ghost Value = { System };
+
+    ghost use Rattle.mars_store.specs.Links.{IsStored};
+
+    ghost view = { λ s. record { nodes = s.nodes; bound = s.trail.items } };
+
+    ghost invariant = { λ s. IsStored s.nodes s.links.items s.trail.items };
+}
+
+impl Store {
+    /// A system without nodes.
+    pub fn new(alloc: Global) -> Store
+        ensures { result ≡ record { nodes = []; bound = [] } }
+    {
+        Store {
+            nodes: Nodes::new(alloc),
+            links: Vec::new(alloc),
+            trail: Vec::new(alloc),
+        }
+    }
+
+    /// Adds a node with a label over kids, linear in these.
+    pub fn add(&mut self, label: Label, kids: &[NodeId]) -> Result<NodeId, NoMemory>
+        requires arity { length kids.now ≡ arity_of label }
+        requires inside { All (λ kid. kid < length self.old.nodes) kids.now }
+        ensures node { IfOk result (λ node. node ≡ length self.old.nodes) }
+        ensures ok { OnOk result (self.new ≡ with_node self.old (labelled label kids.now)) }
+        ensures err { OnErr result (self.new ≡ self.old) }
+    {
+        self.push(Some(label), kids)
+    }
+
+    /// Adds a variable.
+    pub fn add_free(&mut self) -> Result<NodeId, NoMemory>
+        ensures node { IfOk result (λ node. node ≡ length self.old.nodes) }
+        ensures ok { OnOk result (self.new ≡ with_node self.old free_leaf) }
+        ensures err { OnErr result (self.new ≡ self.old) }
+    {
+        self.push(None, &[])
+    }
+
+    fn push(&mut self, label: Option<Label>, kids: &[NodeId]) -> Result<NodeId, NoMemory>
+        requires arity { length kids.now ≡ arity_at label }
+        requires inside { All (λ kid. kid < length self.old.nodes) kids.now }
+        ensures node { IfOk result (λ node. node ≡ length self.old.nodes) }
+        ensures ok { OnOk result (self.new ≡ with_node self.old (record { label = label; kids = kids.now })) }
+        ensures err { OnErr result (self.new ≡ self.old) }
+    {
+        let node = self.links.len();
+        self.links.reserve(1)?;
+        self.nodes.push(label, kids)?;
+        self.links.push_reserved(node);
+        Ok(NodeId(node))
+    }
+
+    /// Makes a variable equal to the end of a node's links: of two variables the younger is linked to the older.
+    pub fn bind(&mut self, var: NodeId, to: NodeId) -> Result<(), NoMemory>
+        requires var_in { var < length self.old.nodes }
+        requires free { label_of self.old.nodes var ≡ None }
+        requires end { resolve self.old.bound var ≡ var }
+        requires to_in { to < length self.old.nodes }
+        requires elsewhere { resolve self.old.bound to ≢ var }
+        ensures ok { OnOk result (self.new ≡ linked self.old var (resolve self.old.bound to)) }
+        ensures err { OnErr result (self.new ≡ self.old) }
+    {
+        let last = self.deref(to);
+        let (young, old) = self.in_order(var.0, last.0);
+        link(&mut self.links, &mut self.trail, young, old)?;
+        Ok(())
+    }
+
+    /// The equation of two ends of links, from the younger variable to the other.
+    fn in_order(&self, var: usize, last: usize) -> (usize, usize)
+        requires free { label_of self.now.nodes var ≡ None }
+        requires last_in { last < length self.now.nodes }
+        ensures { result ≡ equation_of self.now.nodes var last }
+    {
+        match self.nodes.label(last) {
+            None if var < last => (last, var),
+            _ => (var, last),
+        }
+    }
+
+    /// The end of a node's links.
+    pub fn deref(&self, node: NodeId) -> NodeId
+        requires { node < length self.now.nodes }
+        ensures end { result ≡ resolve self.now.bound node }
+        ensures inside { result < length self.now.nodes }
+        ensures unbound { IsUnbound self.now.bound result }
+        ensures system { IsSystem self.now }
+    {
+        let mut last = node.0;
+        while self.links[last] != last {
+            last = self.links[last];
+        }
+        NodeId(last)
+    }
+
+    /// The label at the root of a node's tree, `None` exactly where it isn't forced.
+    pub fn root_label(&self, node: NodeId) -> Option<Label>
+        requires { node < length self.now.nodes }
+        ensures label { result ≡ label_of self.now.nodes (resolve self.now.bound node) }
+        ensures forced { MatchOption result (IsUnforced self.now node []) (IsForced self.now node []) }
+    {
+        let last = self.deref(node);
+        self.nodes.label(last.0)
+    }
+
+    /// The kid at a place of the root of a node's tree.
+    pub fn kid(&self, node: NodeId, place: usize) -> NodeId
+        requires inside { node < length self.now.nodes }
+        requires place { place < length (kids_of self.now.nodes (resolve self.now.bound node)) }
+        ensures kid { slice_get (kids_of self.now.nodes (resolve self.now.bound node)) place ≡ Some result }
+        ensures kid_in { result < length self.now.nodes }
+    {
+        let last = self.deref(node);
+        self.nodes.kid(last.0, place)
+    }
+
+    /// The present state.
+    pub fn mark(&self) -> Mark
+        ensures mark { result ≡ mark_of self.now }
+        ensures system { IsSystem self.now }
+    {
+        Mark {
+            nodes: self.nodes.len(),
+            bound: self.trail.len(),
+        }
+    }
+
+    /// Goes back to a state that was marked, linear in what was added since.
+    pub fn undo_to(&mut self, mark: Mark)
+        requires { IsMark self.old mark }
+        ensures { self.new ≡ undone self.old mark }
+    {
+        while self.trail.len() > mark.bound {
+            match self.trail.pop() {
+                Some((var, _)) => self.links[var] = var,
+                None => unreachable!(),
+            }
+        }
+        self.nodes.truncate(mark.nodes);
+        self.links.truncate(mark.nodes);
+    }
+}
+
+/// Links a variable to a node, and remembers it on the trail.
+fn link(
+    links: &mut Vec<usize>,
+    trail: &mut Vec<(usize, usize)>,
+    young: usize,
+    old: usize,
+) -> Result<(), NoMemory>
+    requires { young < length links.old.items }
+    ensures links { OnOk result (links.new.items ≡ slice_set links.old.items young old) }
+    ensures trail { OnOk result (trail.new.items ≡ trail.old.items ++ (young, old) ∷ []) }
+    ensures links_err { OnErr result (links.new.items ≡ links.old.items) }
+    ensures trail_err { OnErr result (trail.new.items ≡ trail.old.items) }
+{
+    trail.push((young, old))?;
+    links[young] = old;
+    Ok(())
+}
