@@ -1,10 +1,11 @@
 -- Marks while a store grows and is undone.
 use Rattle.std.proofs.Common.{◌≡◌, ◌⊎◌, ℕ, ◌+◌, ◌<◌, ◌≤◌, List, [], ◌∷◌, ◌++◌, length, take, get_or, refl, sym, ap, ap₂, ◌∙◌, arith, inl, inr, length-append}
 use Rattle.std.proofs.lemmas.Bool.{cases_lt}
-use Rattle.std.proofs.lemmas.List.{take-take, take_all, length-take-le, get_or_append_left, get_or_at}
+use Rattle.std.proofs.lemmas.List.{take-take, take_all, take-append-le, length-take-le, get_or_append_left, get_or_at}
 use Rattle.std.proofs.lemmas.List.Elements.{All-weaker, All-push, All-get_or, All-from_get_or}
+use Rattle.mars_tree.specs.Graph.{Node}
 use Rattle.mars_store.specs.declared.mark.Mark.{Mark}
-use Rattle.mars_store.specs.System.{System, IsSystem, IsMark, IsLink, Grows, mark_of, undone}
+use Rattle.mars_store.specs.System.{System, IsSystem, IsMark, IsLink, Grows, mark_of, undone, linked, with_node, equation_of}
 use Rattle.mars_store.specs.Marks.{IsWithin, AreMarks, MarkMade, MarkKept, MarksNest}
 
 front-take : {X : Type 0} (n : ℕ) (old new : List X) → n ≤ length old → take (length old) new ≡ old → take n new ≡ take n old
@@ -46,6 +47,40 @@ marks_nested system outer inner mo mi w =
       },
       ap₂ (λ ns bs. record { nodes = ns; bound = bs }) nodes bound,
     )
+
+pub grows-refl : (system : System) → Grows system system
+grows-refl system = record {
+  more_nodes = omega arith;
+  nodes = take_all (length system.nodes) system.nodes (omega arith);
+  more_bound = omega arith;
+  bound = take_all (length system.bound) system.bound (omega arith);
+}
+
+pub grows-trans : (a b c : System) → Grows a b → Grows b c → Grows a c
+grows-trans a b c f g =
+    let fn_size = f.more_nodes in let fb = f.more_bound in let gn = g.more_nodes in let gb = g.more_bound in
+    record {
+      more_nodes = omega arith;
+      nodes = front-take (length a.nodes) b.nodes c.nodes fn_size g.nodes ∙ f.nodes;
+      more_bound = omega arith;
+      bound = front-take (length a.bound) b.bound c.bound fb g.bound ∙ f.bound;
+    }
+
+pub grows-linked : (system : System) (x y : ℕ) → Grows system (linked system x y)
+grows-linked system x y = record {
+  more_nodes = omega arith;
+  nodes = take_all (length system.nodes) system.nodes (omega arith);
+  more_bound = omega (arith, length-append system.bound (equation_of system.nodes x y ∷ []));
+  bound = take-append-le (length system.bound) system.bound (equation_of system.nodes x y ∷ []) (omega arith) ∙ take_all (length system.bound) system.bound (omega arith);
+}
+
+pub grows-node : (system : System) (node : Node) → Grows system (with_node system node)
+grows-node system node = record {
+  more_nodes = omega (arith, length-append system.nodes (node ∷ []));
+  nodes = take-append-le (length system.nodes) system.nodes (node ∷ []) (omega arith) ∙ take_all (length system.nodes) system.nodes (omega arith);
+  more_bound = omega arith;
+  bound = take_all (length system.bound) system.bound (omega arith);
+}
 
 -- every mark of a store is an outer one of its present state
 pub within-present : (system : System) (mark : Mark) → IsMark system mark → IsWithin mark (mark_of system)

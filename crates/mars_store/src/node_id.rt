@@ -1,8 +1,8 @@
 //! Numbers of nodes.
 use std::marker::Model;
 
-/// A node of a store: its number, counted from 0 in the order of adding.
-#[derive(Clone, Copy, Debug, PartialEq, Eq, PartialOrd, Ord, Hash)]
+/// A node of a store: its number, counted from 0 in the order of adding. The default is number 0.
+#[derive(Clone, Copy, Debug, Default, PartialEq, Eq, PartialOrd, Ord, Hash)]
 pub struct NodeId(pub(crate) usize);
 
 impl Model for NodeId {

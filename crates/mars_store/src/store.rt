@@ -89,6 +89,7 @@ impl Store {
         requires elsewhere { resolve self.old.bound to ≢ var }
         ensures ok { OnOk result (self.new ≡ linked self.old var (resolve self.old.bound to)) }
         ensures err { OnErr result (self.new ≡ self.old) }
+        ensures system { IsSystem self.new }
     {
         let last = self.deref(to);
         let (young, old) = self.in_order(var.0, last.0);
@@ -128,6 +129,7 @@ impl Store {
         requires { node < length self.now.nodes }
         ensures label { result ≡ label_of self.now.nodes (resolve self.now.bound node) }
         ensures forced { MatchOption result (IsUnforced self.now node []) (IsForced self.now node []) }
+        ensures system { IsSystem self.now }
     {
         let last = self.deref(node);
         self.nodes.label(last.0)
@@ -139,6 +141,7 @@ impl Store {
         requires place { place < length (kids_of self.now.nodes (resolve self.now.bound node)) }
         ensures kid { slice_get (kids_of self.now.nodes (resolve self.now.bound node)) place ≡ Some result }
         ensures kid_in { result < length self.now.nodes }
+        ensures system { IsSystem self.now }
     {
         let last = self.deref(node);
         self.nodes.kid(last.0, place)

@@ -12,3 +12,13 @@ invariant_of-self-2 c =
     (λ p. c.requires.elsewhere (sym c.deref-last.ensures.end ∙ p))
     (c.in_ok-link.ensures.links ∙ ap (λ (e : ℕ × ℕ). set c.self.inside.links.items e.0 e.1) young)
     (c.in_ok-link.ensures.trail ∙ ap (λ (e : ℕ × ℕ). c.self.inside.trail.items ++ e ∷ []) young)).0
+
+pub returns-clause-system : goal.returns-clause-system
+returns-clause-system c =
+    let young : c.in_order-young.result ≡ equation_of c.args.self.now.nodes c.args.var c.deref-last.result =
+    c.in_order-young.ensures ∙ ap₂ (equation_of c.args.self.now.nodes) c.var.view_is c.last.view_is in
+    (stored-linked_view c.self.inside.nodes c.self.inside.links.items _ c.self.inside.trail.items _ c.args.self.now c.args.var c.deref-last.result c.self.view_is c.self.invariant
+    c.requires.var_in c.requires.free c.requires.end c.deref-last.ensures.inside c.deref-last.ensures.unbound
+    (λ p. c.requires.elsewhere (sym c.deref-last.ensures.end ∙ p))
+    (c.in_ok-link.ensures.links ∙ ap (λ (e : ℕ × ℕ). set c.self.inside.links.items e.0 e.1) young)
+    (c.in_ok-link.ensures.trail ∙ ap (λ (e : ℕ × ℕ). c.self.inside.trail.items ++ e ∷ []) young)).0.system

@@ -1,0 +1,5 @@
+pub mod Implied
+pub mod Kids
+pub mod Lists
+pub mod Meetings
+pub mod Solving

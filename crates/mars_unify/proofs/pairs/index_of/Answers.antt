@@ -1,0 +1,6 @@
+use Rattle.mars_unify.proofs.Lists.{index-push}
+use Rattle.mars_unify.proofs.pairs.index_of.Goals as goal
+
+pub returns : goal.returns
+returns c =
+    index-push c.in_ok-index.index c.insert.new.self c.args.pairs.now c.args.pair c.in_ok-index.ensures c.in_ok-insert.ensures.updates.0
