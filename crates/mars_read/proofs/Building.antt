@@ -167,7 +167,7 @@ leaf_in-lookup text x (e ∷ entries) = at (bytes_eq x (text e.0)) (leaf_in-look
 ne-test : (n m : ℕ) → (n ≡ m → ⊥) → (n == m) ≡ false
 ne-test n m h = grind (arith, nat_tests)
 
-eq-test : (n m : ℕ) → n ≡ m → (n == m) ≡ true
+pub eq-test : (n m : ℕ) → n ≡ m → (n == m) ≡ true
 eq-test n m h = grind (arith, nat_tests)
 
 -- a new key goes last

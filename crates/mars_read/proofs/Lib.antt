@@ -8,6 +8,7 @@ pub mod Naming
 pub mod Passes
 pub mod Placing
 pub mod Refused
+pub mod Standing
 pub mod Steps
 pub mod Tails
 pub mod Trees

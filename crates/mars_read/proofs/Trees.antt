@@ -21,7 +21,7 @@ applied-fixed definitions (Variable x) a = absurd a
 applied-fixed definitions (Applied f terms) a = refl
 
 -- a variable stands for itself or for an applied name
-defined-cases : (x : List ℕ) (definitions : List Definition) → All (λ d. IsApplied d.term) definitions → (defined definitions x ≡ Variable x) ⊎ IsApplied (defined definitions x)
+pub defined-cases : (x : List ℕ) (definitions : List Definition) → All (λ d. IsApplied d.term) definitions → (defined definitions x ≡ Variable x) ⊎ IsApplied (defined definitions x)
 defined-cases x [] a = inl refl
 defined-cases x (d ∷ definitions) a = at (bytes_eq x d.variable) (defined-cases x definitions (All-tail (λ d. IsApplied d.term) d definitions a))
   where
