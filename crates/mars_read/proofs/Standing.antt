@@ -105,7 +105,7 @@ defines-node names b node definitions built defs = record {
   each = λ x leaf e.
       let stays : target_of (with_node b node) leaf ≡ target_of b leaf = target-added b.targets (length b.nodes) leaf (leaf-within b x leaf built e) in
       subst (λ n. Stands names (with_node b node) n (defined definitions x)) (sym stays)
-          (stands-grown names names b (with_node b node) (target_of b leaf) (defined definitions x) (same-names names) (grows-node b node) (defs.each x leaf e));
+      (stands-grown names names b (with_node b node) (target_of b leaf) (defined definitions x) (same-names names) (grows-node b node) (defs.each x leaf e));
   known = defs.known;
   applied = defs.applied;
 }
@@ -129,14 +129,14 @@ unknown-undefined b x (d ∷ definitions) new known = at (bytes_eq x d.variable)
 defines-leaf : (names : List (List ℕ)) (b : Built) (x : List ℕ) (definitions : List Definition) → IsBuilt b → leaf_of b x ≡ None → Defines names b definitions → Defines names (with_leaf b x) definitions
 defines-leaf names b x definitions built new defs = record {
   each = λ y leaf e. elim (leaf_in-added y x b.leaves (length b.nodes) leaf e) [
-      inl old ↦
-          let stays : target_of (with_leaf b x) leaf ≡ target_of b leaf = target-added b.targets (length b.nodes) leaf (leaf-within b y leaf built old) in
-          subst (λ n. Stands names (with_leaf b x) n (defined definitions y)) (sym stays)
-              (stands-grown names names b (with_leaf b x) (target_of b leaf) (defined definitions y) (same-names names) (grows-leaf b x) (defs.each y leaf old))
+    | inl old ↦
+        let stays : target_of (with_leaf b x) leaf ≡ target_of b leaf = target-added b.targets (length b.nodes) leaf (leaf-within b y leaf built old) in
+        subst (λ n. Stands names (with_leaf b x) n (defined definitions y)) (sym stays)
+        (stands-grown names names b (with_leaf b x) (target_of b leaf) (defined definitions y) (same-names names) (grows-leaf b x) (defs.each y leaf old))
     | inr there ↦
-          let itself : target_of (with_leaf b x) leaf ≡ leaf = subst (λ k. target_in (b.targets ++ k ∷ []) leaf ≡ leaf) there.1 (target-new b.targets leaf (there.1 ∙ sym built.size)) in
-          let undefined : defined definitions y ≡ Variable y = subst (λ z. defined definitions z ≡ Variable z) (sym there.0) (unknown-undefined b x definitions new defs.known) in
-          subst (λ t. Stands names (with_leaf b x) (target_of (with_leaf b x) leaf) t) (sym undefined) (e ∙ ap Some (sym itself))
+        let itself : target_of (with_leaf b x) leaf ≡ leaf = subst (λ k. target_in (b.targets ++ k ∷ []) leaf ≡ leaf) there.1 (target-new b.targets leaf (there.1 ∙ sym built.size)) in
+        let undefined : defined definitions y ≡ Variable y = subst (λ z. defined definitions z ≡ Variable z) (sym there.0) (unknown-undefined b x definitions new defs.known) in
+        subst (λ t. Stands names (with_leaf b x) (target_of (with_leaf b x) leaf) t) (sym undefined) (e ∙ ap Some (sym itself))
   ];
   known = known-grown b (with_leaf b x) definitions (grows-leaf b x) defs.known;
   applied = defs.applied;
@@ -182,7 +182,7 @@ defined-applied names b x definitions built defs is = at (leaf_of b x) refl is
     at (Some leaf) e is =
         let test : is_defined b x ≡ not (target_of b leaf == leaf) = ap (λ o. option_map_or (λ l. not (target_of b l == l)) o false) e in
         given leaf e (λ same. let yes : (target_of b leaf == leaf) ≡ true = eq-test (target_of b leaf) leaf same in let no : not (target_of b leaf == leaf) ≡ true = sym test ∙ is in cc) (defined definitions x) refl (defs.each x leaf e)
-            (defined-cases x definitions defs.applied)
+        (defined-cases x definitions defs.applied)
 
 pub undefined-variable : (names : List (List ℕ)) (b : Built) (x : List ℕ) (definitions : List Definition) → IsBuilt b → Defines names b definitions → is_defined b x ≡ false → defined definitions x ≡ Variable x
 undefined-variable names b x definitions built defs is = at (leaf_of b x) refl
@@ -190,7 +190,7 @@ undefined-variable names b x definitions built defs is = at (leaf_of b x) refl
     at : (o : Option ℕ) → leaf_of b x ≡ o → defined definitions x ≡ Variable x
     at None e = unknown-undefined b x definitions e defs.known
     at (Some leaf) e = elim (defined-cases x definitions defs.applied) [
-        inl variable ↦ variable
+      | inl variable ↦ variable
       | inr applied ↦ absurd (
           let test : is_defined b x ≡ not (target_of b leaf == leaf) = ap (λ o. option_map_or (λ l. not (target_of b l == l)) o false) e in
           let itself : target_of b leaf ≡ leaf = not-test (target_of b leaf) leaf (sym test ∙ is) in
@@ -245,7 +245,7 @@ defines-target names b x leaf root t definitions built defs found undefined s ap
         let target : target_of (with_target b leaf root) l ≡ root = ap (target_of (with_target b leaf root)) leaves ∙ target-set b leaf root (leaf-within b x leaf built found) in
         let term : defined (definitions ++ record { variable = x; term = t } ∷ []) y ≡ t = ap (defined (definitions ++ record { variable = x; term = t } ∷ [])) same ∙ defined-last x t definitions defs.applied undefined in
         subst (λ n. Stands names (with_target b leaf root) n (defined (definitions ++ record { variable = x; term = t } ∷ []) y)) (sym target)
-            (subst (λ w. Stands names (with_target b leaf root) root w) (sym term) (grown root t s))
+        (subst (λ w. Stands names (with_target b leaf root) root w) (sym term) (grown root t s))
 
     at : (y : List ℕ) (l : ℕ) → leaf_of b y ≡ Some l → (v : Bool) → bytes_eq y x ≡ v → Stands names (with_target b leaf root) (target_of (with_target b leaf root) l) (defined (definitions ++ record { variable = x; term = t } ∷ []) y)
     at y l e true is = here y l e ((bytes_eq-Decides y x).0 is)
@@ -253,7 +253,7 @@ defines-target names b x leaf root t definitions built defs found undefined s ap
         let other : y ≡ x → ⊥ = λ same. let yes : bytes_eq y x ≡ true = (bytes_eq-Decides y x).1 same in cc in
         let target : target_of (with_target b leaf root) l ≡ target_of b l = target-kept b leaf root l (λ same. other (built.apart y x leaf (subst (λ k. leaf_of b y ≡ Some k) same e) found)) in
         subst (λ n. Stands names (with_target b leaf root) n (defined (definitions ++ record { variable = x; term = t } ∷ []) y)) (sym target)
-            (subst (λ w. Stands names (with_target b leaf root) (target_of b l) w) (sym (defined-other x y t definitions other)) (grown (target_of b l) (defined definitions y) (defs.each y l e)))
+        (subst (λ w. Stands names (with_target b leaf root) (target_of b l) w) (sym (defined-other x y t definitions other)) (grown (target_of b l) (defined definitions y) (defs.each y l e)))
 
 -- after a definition of a variable that had none
 pub defines-definition : (names : List (List ℕ)) (old new : Built) (x : List ℕ) (root : ℕ) (t : Written) (definitions : List Definition) → IsBuilt old → AddsDefinition x root old new → is_defined old x ≡ false → Defines names old definitions → Stands names old root t → IsApplied t →
@@ -261,4 +261,4 @@ pub defines-definition : (names : List (List ℕ)) (old new : Built) (x : List �
 defines-definition names old new x root t definitions built adds is defs s applied =
     subst (λ b. Defines names b (definitions ++ record { variable = x; term = t } ∷ [])) (sym adds.whole)
     (defines-target names (with_variable old x) x adds.leaf root t definitions (built-variable old x built) (defines-variable names old x definitions built defs) adds.found
-        (undefined-variable names old x definitions built defs is) (stands-grown names names old (with_variable old x) root t (same-names names) (grows-variable old x) s) applied)
+    (undefined-variable names old x definitions built defs is) (stands-grown names names old (with_variable old x) root t (same-names names) (grows-variable old x) s) applied)
