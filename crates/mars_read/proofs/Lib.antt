@@ -1,11 +1,15 @@
 pub mod Assembly
+pub mod Building
 pub mod Complete
 pub mod FirstToken
 pub mod Forms
 pub mod Lexing
 pub mod Naming
+pub mod Passes
 pub mod Placing
 pub mod Refused
+pub mod Standing
 pub mod Steps
 pub mod Tails
+pub mod Trees
 pub mod Words

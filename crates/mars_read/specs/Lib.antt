@@ -1,9 +1,12 @@
+pub mod Built
+pub mod BuiltInside
 pub mod Bytes
 pub mod First
 pub mod Grammar
 pub mod Lexed
 pub mod Machine
 pub mod Reading
+pub mod Meaning
 pub mod Seen
 pub mod Token
 pub mod Written

@@ -1,11 +1,13 @@
 //! Reading: from the bytes of an input to what they say.
 #![tactic(auto)]
 
+mod builder;
 mod bytes;
 mod cursor;
 mod first;
 mod lexer;
 mod reader;
+mod redirect;
 mod refusal;
 mod token;
 
