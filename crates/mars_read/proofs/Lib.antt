@@ -1,6 +1,7 @@
 pub mod Assembly
 pub mod Building
 pub mod Complete
+pub mod Defining
 pub mod FirstToken
 pub mod Forms
 pub mod Lexing
@@ -8,8 +9,9 @@ pub mod Naming
 pub mod Passes
 pub mod Placing
 pub mod Refused
+pub mod Rows
 pub mod Standing
 pub mod Steps
-pub mod Tails
 pub mod Trees
+pub mod Views
 pub mod Words

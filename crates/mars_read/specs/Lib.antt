@@ -5,8 +5,8 @@ pub mod First
 pub mod Grammar
 pub mod Lexed
 pub mod Machine
-pub mod Reading
 pub mod Meaning
+pub mod Reading
 pub mod Seen
 pub mod Token
 pub mod Written
