@@ -1,23 +1,26 @@
 -- What was read, put together from its parts.
-use Rattle.std.proofs.Common.{◌≡◌, ℕ, ◌^◌, ◌-◌, ◌<◌, ◌≤◌, ◌+◌, List, [], ◌∷◌, ◌++◌, length, refl, ap, sym, ◌∙◌, subst, Option, Some, None, append_assoc, append-nil, arith, length-append, zero}
+use Rattle.std.proofs.Common.{◌≡◌, ℕ, ◌^◌, ◌-◌, ◌<◌, ◌≤◌, ◌+◌, List, [], ◌∷◌, ◌++◌, length, map, refl, ap, sym, ◌∙◌, subst, Option, Some, None, append_assoc, append-nil, arith, length-append}
 use Rattle.std.specs.Prelude.{codes}
 use Rattle.std.specs.List.{AllZip}
+use Rattle.std.proofs.lemmas.List.{length-map}
 use Rattle.mars_tree.specs.Names.{built_in_names, number_of, known_with}
-use Rattle.mars_tree.specs.Graph.{Node, labelled}
+use Rattle.mars_tree.specs.Graph.{Node}
 use Rattle.mars_tree.specs.declared.label.NameId.{NameId}
-use Rattle.mars_tree.specs.declared.label.Label.TheVariants as label
 use Rattle.mars_read.specs.declared.first.First.{First}
 use Rattle.mars_read.specs.declared.first.FirstPut.{FirstPut}
 use Rattle.mars_read.specs.Token.{Token}
 use Rattle.mars_read.specs.Token as token
-use Rattle.mars_read.specs.Written.{Written, Applied, none, Tree, Put, Script, names_of_tree, names_of_puts}
-use Rattle.mars_read.specs.Grammar.{IsTree, name, IsPut, put, ArePuts, no_puts, puts, IsScript, empty, session}
-use Rattle.mars_read.specs.Machine.{State, Starts, Ruled, Named, Commands, Puts, Trees, Reads, Whole, step, run}
-use Rattle.mars_read.specs.First.{known_all, IsNameOf, IsTreeOf, IsPutOf, IsSessionOf, IsFirstOf, nodes_in}
-use Rattle.mars_read.specs.Reading.{Places, HasRoom, between, ReadsTree, ReadsPut, ReadsPuts, ReadsSession, ReadsScript, IsNotNext, IsNoName, IsLeft}
-use Rattle.mars_read.proofs.Naming.{Grows, grows-with, grows-all, grows-on, known-all-append, known-length, name-stays, name-listed, tree-stays, put-stays, puts-stay, zip-push}
-use Rattle.mars_read.proofs.Complete.{tree-runs, word-runs, puts-run}
-use Rattle.mars_read.proofs.Refused.{no-semicolon, no-command-more, no-word, not-done, no-tree, no-put-name, no-session-name}
+use Rattle.mars_read.specs.Written.{Written, Definition, Tree, Put, Script, names_in, names_of_definitions, names_of_tree, names_of_puts}
+use Rattle.mars_read.specs.Meaning.{IsTreeOf}
+use Rattle.mars_read.specs.Built.{Built, nothing, Stands, Defines, graph_of, redirected}
+use Rattle.mars_read.specs.Grammar.{IsPut, put, ArePuts, no_puts, puts, IsScript, empty, session}
+use Rattle.mars_read.specs.Machine.{Head, Stack, InTree, State, Starts, Ruled, Named, Commands, Puts, Wants, Has, Whole, step, run}
+use Rattle.mars_read.specs.First.{known_all, IsNameOf, IsPutOf, IsSessionOf, IsFirstOf, nodes_in}
+use Rattle.mars_read.specs.Reading.{between, view, ReadsTerm, ReadsRest, ReadsPut, ReadsPuts, ReadsSession, ReadsScript, IsNotNext, IsNoName, IsLeft}
+use Rattle.mars_read.proofs.Naming.{Grows, grows-all, known-all-append, known-length, name-stays, name-listed, puts-stay, zip-push, zip-length}
+use Rattle.mars_read.proofs.Complete.{word-runs, puts-run}
+use Rattle.mars_read.proofs.Refused.{no-command-more, no-word, not-done, no-session-name}
+use Rattle.mars_read.proofs.Standing.{defines-nothing}
 
 shorter : {tokens rest : List Token} (first : Token) → tokens ≡ first ∷ rest → length tokens ≡ length rest + 1
 shorter {tokens} {rest} first e = let h : length tokens ≡ length (first ∷ rest) = ap length e in omega arith
@@ -28,50 +31,48 @@ known-room names known text e = let h : length known ≡ length (known_with text
 listed : (names known : List (List ℕ)) (text : List ℕ) (id : NameId) → known ≡ known_with text names → id.0 ≡ number_of text names → IsNameOf known text id
 listed names known text id e is = subst (λ (l : List (List ℕ)). IsNameOf l text id) (sym e) (name-listed text names id.0 is)
 
--- a TREE that is a name
-pub reads-tree : {tokens rest : List Token} {names known : List (List ℕ)} {graph : List Node} {root : ℕ} (text : List ℕ) (id : NameId) →
-    tokens ≡ token.Name text ∷ rest → known ≡ known_with text names → id.0 ≡ number_of text names →
-    graph ≡ labelled (label.Name id 0) [] ∷ [] → root ≡ 0 → ReadsTree (between tokens rest names known) graph root
-reads-tree {tokens} {rest} {names} {known} {graph} {root} text id e known_is id_is graph_is root_is = record {
-  written = record { term = Applied text none; definitions = [] };
-  front = token.Name text ∷ [];
-  split = e;
-  is = name;
-  names_are = known_is;
-  stands = (id, listed names known text id known_is id_is, graph_is, root_is);
-  size = let h : length graph ≡ 1 = ap length graph_is in omega (arith, shorter (token.Name text) e);
-  room = omega (arith, shorter (token.Name text) e, known-room names known text known_is);
-}
+-- behind the TERM of a TREE nothing is defined yet
+pub nothing-defined : (inner after : List Token) (known : List (List ℕ)) {middle : List (List ℕ)} {b : Built} {node : ℕ} → ReadsTerm (view inner known nothing) (view after middle b) node → Defines middle b []
+nothing-defined inner after known term = term.keeps.defines [] (defines-nothing known)
 
 -- a command, from its name, its tree and its semicolon
-module _ {tokens inner after : List Token} (names known : List (List ℕ)) {all : List (List ℕ)} (text : List ℕ) {graph : List Node} {root : ℕ}
-    (e : tokens ≡ token.Name text ∷ inner) (known_is : known ≡ known_with text names) (tree : ReadsTree (between inner after known all) graph root) where
-  pub reads-put : {rest : List Token} (id : NameId) → id.0 ≡ number_of text names → after ≡ token.Semicolon ∷ rest →
-      ReadsPut (between tokens rest names all) (record { name = id; graph = graph; root = root })
-  reads-put {rest} id id_is behind = record {
-    written = record { name = text; tree = tree.written };
-    front = token.Name text ∷ (tree.front ++ (token.Semicolon ∷ []));
-    split = e ∙ ap (λ l. token.Name text ∷ l) (tree.split ∙ ap (λ l. tree.front ++ l) behind ∙ sym (append_assoc tree.front (token.Semicolon ∷ []) rest));
-    is = put tree.is;
-    names_are = tree.names_are ∙ ap (λ l. known_all (names_of_tree tree.written) l) known_is;
-    stands = record {
-      name = name-stays (subst (λ (l : List (List ℕ)). Grows known l) (sym tree.names_are) (grows-all (names_of_tree tree.written) known)) text id (listed names known text id known_is id_is);
-      tree = tree.stands;
-    };
-    size = omega (arith, shorter (token.Name text) e, shorter token.Semicolon behind, tree.size);
-    room = omega (arith, shorter (token.Name text) e, shorter token.Semicolon behind, known-room names known text known_is, tree.room);
-  }
-
-  pub put-unclosed : IsNotNext token.Semicolon after → (s : List ℕ) (ps : List Put) → run tokens (Puts s ps) ≡ None
+module _ {tokens inner after : List Token} (known : List (List ℕ)) {middle : List (List ℕ)} {b : Built} (text : List ℕ) {node : ℕ}
+    (e : tokens ≡ token.Name text ∷ inner) (term : ReadsTerm (view inner known nothing) (view after middle b) node) where
+  pub put-unended : ((h : Head) (t : Written) → run after (Has t (InTree h)) ≡ None) → (s : List ℕ) (ps : List Put) → run tokens (Puts s ps) ≡ None
   unfolding run step
-  put-unclosed apart s ps = ap (λ l. run l (Puts s ps)) e ∙ ap (λ l. run l (Trees s ps text)) tree.split
-      ∙ tree-runs tree.is after s ps text ∙ no-semicolon after apart s ps text tree.written
+  put-unended refused s ps =
+      ap (λ l. run l (Puts s ps)) e ∙ term.runs (InTree (record { session = s; puts = ps; name = text })) ∙ refused (record { session = s; puts = ps; name = text }) term.written
 
--- a command whose TREE is refused
+  pub reads-put : (names : List (List ℕ)) {rest : List Token} {all : List (List ℕ)} {c : Built} → known ≡ known_with text names → (id : NameId) → id.0 ≡ number_of text names → (end : ReadsRest (view after middle b) (view rest all c)) → {graph : List Node} {root : ℕ} →
+      graph ≡ graph_of c → root < length graph →
+      ((ns : List (List ℕ)) (tree : Tree) → Stands ns c node tree.term → Defines ns c tree.definitions → IsTreeOf ns tree graph root) →
+      ReadsPut (between tokens rest names all) (record { name = id; graph = graph; root = root })
+  reads-put names {rest} {all} {c} known_is id id_is end {graph} {root} graph_is root_in shows =
+      let term_names : middle ≡ known_all (names_in term.written) known = term.names_are in
+      let all_names : all ≡ known_all (names_in term.written ++ names_of_definitions end.written) known =
+      end.names_are ∙ ap (known_all (names_of_definitions end.written)) term.names_are ∙ sym (known-all-append (names_in term.written) (names_of_definitions end.written) known) in
+      let nodes : length graph ≡ length c.nodes = ap length graph_is ∙ length-map c.nodes (redirected c.targets) in
+      record {
+        written = record { name = text; tree = record { term = term.written; definitions = end.written } };
+        front = token.Name text ∷ ((term.front ++ end.front) ++ (token.Semicolon ∷ []));
+        split = e ∙ ap (λ l. token.Name text ∷ l) (term.split ∙ ap (λ l. term.front ++ l) end.split ∙ sym (append_assoc term.front end.front (token.Semicolon ∷ rest))
+            ∙ sym (append_assoc (term.front ++ end.front) (token.Semicolon ∷ []) rest));
+        is = put (end.is term.front term.written term.is);
+        names_are = all_names ∙ ap (λ l. known_all (names_in term.written ++ names_of_definitions end.written) l) known_is;
+        stands = record {
+          name = name-stays (subst (λ (l : List (List ℕ)). Grows known l) (sym all_names) (grows-all (names_in term.written ++ names_of_definitions end.written) known)) text id (listed names known text id known_is id_is);
+          tree = shows all (record { term = term.written; definitions = end.written }) (end.stands node term.written term.stands) end.defines;
+          root_in = root_in;
+        };
+        size = omega (arith, shorter (token.Name text) e, term.fits.nodes, end.fits.nodes, nodes);
+        room = omega (arith, shorter (token.Name text) e, known-room names known text known_is, term.fits.names, end.fits.names);
+      }
+
+-- a command whose TERM is refused
 pub put-without : {tokens inner : List Token} (text : List ℕ) → tokens ≡ token.Name text ∷ inner →
-    ((s : List ℕ) (ps : List Put) (n : List ℕ) → run inner (Trees s ps n) ≡ None) → (s : List ℕ) (ps : List Put) → run tokens (Puts s ps) ≡ None
+    ((k : Stack) → run inner (Wants k) ≡ None) → (s : List ℕ) (ps : List Put) → run tokens (Puts s ps) ≡ None
 unfolding run step
-put-without text e refused s ps = ap (λ l. run l (Puts s ps)) e ∙ refused s ps text
+put-without text e refused s ps = ap (λ l. run l (Puts s ps)) e ∙ refused (InTree (record { session = s; puts = ps; name = text }))
 
 -- no command yet
 pub reads-none : (tokens : List Token) (names : List (List ℕ)) → ReadsPuts (between tokens tokens names names) []
@@ -99,12 +100,6 @@ names-push (q ∷ ps) p = ap (λ l. (q.name ∷ names_of_tree q.tree) ++ l) (nam
 nodes-push : (ps : List FirstPut) (p : FirstPut) → nodes_in (ps ++ p ∷ []) ≡ nodes_in ps + length p.graph
 nodes-push [] p = omega arith
 nodes-push (q ∷ ps) p = let h : nodes_in (ps ++ p ∷ []) ≡ nodes_in ps + length p.graph = nodes-push ps p in omega arith
-
-zip-length : {A B : Type 0} (R : A → B → Type 0) (xs : List A) (ys : List B) → AllZip R xs ys → length xs ≡ length ys
-zip-length R [] [] are = refl
-zip-length R [] (y ∷ ys) are = absurd are
-zip-length R (x ∷ xs) [] are = absurd are
-zip-length R (x ∷ xs) (y ∷ ys) are = let h : length xs ≡ length ys = zip-length R xs ys are.1 in omega arith
 
 -- one command more
 module _ {tokens rest : List Token} {names known : List (List ℕ)} {done : List FirstPut} (so_far : ReadsPuts (between tokens rest names known) done) where

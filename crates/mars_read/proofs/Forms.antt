@@ -1,5 +1,5 @@
 -- Texts of the first form by their tokens.
-use Rattle.std.proofs.Common.{◌≡◌, ℕ, ◌+◌, ◌≤◌, ◌<◌, ◌^◌, List, [], ◌∷◌, ◌++◌, length, Option, Some, None, Bool, true, false, refl, ap, sym, ◌∙◌, subst, arith, length-append}
+use Rattle.std.proofs.Common.{◌≡◌, ℕ, ◌≤◌, ◌<◌, ◌^◌, List, [], ◌∷◌, ◌++◌, length, Some, None, true, ap, sym, ◌∙◌, subst, arith, length-append}
 use Rattle.std.proofs.lemmas.Bool.{false≢true}
 use Rattle.mars_read.specs.declared.first.First.{First}
 use Rattle.mars_read.specs.Token.{Token}
@@ -7,7 +7,7 @@ use Rattle.mars_read.specs.Written.{Script}
 use Rattle.mars_read.specs.Grammar.{IsScript}
 use Rattle.mars_read.specs.Machine.{Starts, run}
 use Rattle.mars_read.specs.Lexed.{is_token, AreTokens, IsLexed, IsNotLexed}
-use Rattle.mars_read.specs.First.{IsFirstForm, IsReadFrom, IsNoFirstForm, OneScript, nodes_in}
+use Rattle.mars_read.specs.First.{IsReadFrom, IsNoFirstForm, OneScript, nodes_in}
 use Rattle.mars_read.specs.Reading.{ReadsScript}
 use Rattle.mars_read.proofs.Complete.{script-runs}
 use Rattle.mars_read.proofs.Steps.{one-token-list}
@@ -31,7 +31,7 @@ pub one-script : OneScript
 one-script bytes script other form second =
     let run_first : run form.tokens Starts ≡ Some script = script-runs form.is in
     let run_second : run form.tokens Starts ≡ Some other =
-        same-run form.tokens second.tokens other (one-token-list bytes second.tokens form.tokens second.lexed form.lexed) second.is in
+    same-run form.tokens second.tokens other (one-token-list bytes second.tokens form.tokens second.lexed form.lexed) second.is in
     let same : Some script ≡ Some other = sym run_first ∙ run_second in cc
 
 -- where the machine finds no way on, the bytes are no text

@@ -1,5 +1,5 @@
 -- The list of names while a text is read: it grows at its end, and holds each name that was read.
-use Rattle.std.proofs.Common.{Bool, true, false, ◌≡◌, ℕ, zero, suc, ◌<◌, ◌≤◌, ◌+◌, List, [], ◌∷◌, ◌++◌, length, refl, ap, sym, ◌∙◌, subst, Option, Some, None, append_assoc, append-nil, arith, length-append, get_or, nat_eq, is_some, unwrap_or, slice_get, if◌then◌else◌}
+use Rattle.std.proofs.Common.{Bool, true, false, ◌≡◌, ℕ, zero, suc, ◌≤◌, ◌+◌, List, [], ◌∷◌, ◌++◌, length, refl, ap, sym, ◌∙◌, subst, Option, Some, None, append_assoc, append-nil, arith, length-append, get_or, nat_eq, is_some, unwrap_or, slice_get, if◌then◌else◌}
 use Rattle.std.specs.Cmp.Lexicographic.{pointwise}
 use Rattle.std.specs.List.{AllZip}
 use Rattle.std.proofs.lemmas.Option.{slice_get-get_or}
@@ -7,11 +7,14 @@ use Rattle.std.proofs.lemmas.List.Quantifiers.{position-Some}
 use Rattle.std.proofs.lemmas.Bool.Decides.{Decides-eqb}
 use Rattle.std.proofs.lemmas.Slice.Eq.{slice_eq-Decides}
 use Rattle.mars_tree.specs.Names.{place_of, number_of, known_with}
-use Rattle.mars_tree.specs.Graph.{Node}
+use Rattle.mars_tree.specs.Graph.{Node, Shown}
+use Rattle.mars_tree.specs.Graph as graph
+use Rattle.mars_tree.specs.declared.label.Label.TheVariants as label
 use Rattle.mars_tree.specs.declared.label.NameId.{NameId}
-use Rattle.mars_read.specs.Written.{Written, Variable, Applied, Writtens, none, more, Tree, Put}
+use Rattle.mars_read.specs.Written.{Tree, Put}
+use Rattle.mars_read.specs.Meaning.{Said, name, free, says, Agree, IsTreeOf}
 use Rattle.mars_read.specs.declared.first.FirstPut.{FirstPut}
-use Rattle.mars_read.specs.First.{known_all, IsNameOf, IsTermOf, IsTreeOf, IsPutOf}
+use Rattle.mars_read.specs.First.{known_all, IsNameOf, IsPutOf}
 
 -- the old names stand at their places
 pub record Grows (old new : List (List ℕ)) : Type 0 where
@@ -75,18 +78,30 @@ name-listed text names n is = ap (λ k. slice_get (known_with text names) k) is 
         slice_get-get_or names i [] at.0 ∙ ap Some (sym same)
 
 -- trees and commands stay what they were
-term-stays : {old new : List (List ℕ)} → Grows old new → (t : Written) (graph : List Node) (root : ℕ) → IsTermOf old t graph root → IsTermOf new t graph root
-term-stays grows (Variable x) graph root is = is
-term-stays grows (Applied f none) graph root is = (is.0, name-stays grows f is.0 is.1, is.2, is.3)
-term-stays grows (Applied f (more t terms)) graph root is = is
+agree-stays : {old new : List (List ℕ)} → Grows old new → (said : Option Said) (shown : Option Shown) → Agree old said shown → Agree new said shown
+agree-stays grows None None is = is
+agree-stays grows None (Some shown) is = is
+agree-stays grows (Some (name f count)) None is = is
+agree-stays grows (Some (free x)) None is = is
+agree-stays grows (Some (name f count)) (Some (graph.label (label.Name id arity))) is = (name-stays grows f id is.0, is.1)
+agree-stays grows (Some (name f count)) (Some (graph.label (label.Int z))) is = is
+agree-stays grows (Some (name f count)) (Some (graph.label label.Dot)) is = is
+agree-stays grows (Some (name f count)) (Some (graph.label (label.Tup arity))) is = is
+agree-stays grows (Some (name f count)) (Some (graph.free n)) is = is
+agree-stays grows (Some (free x)) (Some (graph.label l)) is = is
+agree-stays grows (Some (free x)) (Some (graph.free n)) is = is
 
-pub tree-stays : {old new : List (List ℕ)} → Grows old new → (tree : Tree) (graph : List Node) (root : ℕ) → IsTreeOf old tree graph root → IsTreeOf new tree graph root
-tree-stays grows tree graph root is = term-stays grows tree.term graph root is
+pub tree-stays : {old new : List (List ℕ)} → Grows old new → (tree : Tree) (g : List Node) (root : ℕ) → IsTreeOf old tree g root → IsTreeOf new tree g root
+tree-stays grows tree g root is = record {
+  shown = λ path. agree-stays grows (says tree path) (graph.at g root path) (is.shown path);
+  leaves = is.leaves;
+}
 
 pub put-stays : {old new : List (List ℕ)} → Grows old new → (written : Put) (put : FirstPut) → IsPutOf old written put → IsPutOf new written put
 put-stays grows written put is = record {
   name = name-stays grows written.name put.name is.name;
   tree = tree-stays grows written.tree put.graph put.root is.tree;
+  root_in = is.root_in;
 }
 
 pub puts-stay : {old new : List (List ℕ)} → Grows old new → (written : List Put) (puts : List FirstPut) → AllZip (IsPutOf old) written puts → AllZip (IsPutOf new) written puts
@@ -101,3 +116,9 @@ zip-push R [] [] x y are is = (is, tt)
 zip-push R [] (z ∷ ys) x y are is = absurd are
 zip-push R (w ∷ xs) [] x y are is = absurd are
 zip-push R (w ∷ xs) (z ∷ ys) x y are is = (are.0, zip-push R xs ys x y are.1 is)
+
+pub zip-length : {A B : Type 0} (R : A → B → Type 0) (xs : List A) (ys : List B) → AllZip R xs ys → length xs ≡ length ys
+zip-length R [] [] are = refl
+zip-length R [] (y ∷ ys) are = absurd are
+zip-length R (x ∷ xs) [] are = absurd are
+zip-length R (x ∷ xs) (y ∷ ys) are = let h : length xs ≡ length ys = zip-length R xs ys are.1 in omega arith

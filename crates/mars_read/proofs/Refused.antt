@@ -1,16 +1,19 @@
 -- Where the machine finds no way on.
-use Rattle.std.proofs.Common.{◌≡◌, ℕ, ◌<◌, ◌≤◌, ◌+◌, List, [], ◌∷◌, ◌++◌, length, refl, ap, sym, ◌∙◌, Option, Some, None, arith}
-use Rattle.std.specs.Prelude.{option_and_then, nat_lt, ◌&&◌, Bool, true, false, if◌then◌else◌, codes, eqb}
-use Rattle.std.specs.Cmp.Lexicographic.{pointwise}
+use Rattle.std.proofs.Common.{◌≡◌, ℕ, ◌≤◌, List, [], ◌∷◌, ◌++◌, length, refl, ap, Some, None, arith}
+use Rattle.std.specs.Prelude.{option_and_then, nat_lt, ◌&&◌, not, Bool, true, false, if◌then◌else◌, codes}
 use Rattle.std.proofs.lemmas.Bool.Decides.{nat_tests, Decides-eqb}
 use Rattle.std.proofs.lemmas.Slice.Eq.{slice_eq-Decides}
 use Rattle.mars_read.specs.declared.refusal.Refusal.{Refusal}
 use Rattle.mars_read.specs.declared.refusal.Refusal.TheVariants as refusal
+use Rattle.mars_read.specs.declared.token.Kind.{Kind}
+use Rattle.mars_read.specs.declared.token.Kind.TheVariants as kind
+use Rattle.mars_read.specs.Seen.{named}
 use Rattle.mars_read.specs.Token.{Token}
 use Rattle.mars_read.specs.Token as token
-use Rattle.mars_read.specs.Written.{Tree, Put, Script}
-use Rattle.mars_read.specs.Machine.{State, Starts, Ruled, Named, Commands, Puts, Trees, Reads, Whole, is_put, step, run}
-use Rattle.mars_read.specs.Reading.{OnForm, IsNotNext, IsNoName, IsLeft}
+use Rattle.mars_read.specs.Written.{Written, Variable, Applied, Writtens, Definition, Tree, Put, Script}
+use Rattle.mars_read.specs.Grammar.{is_among}
+use Rattle.mars_read.specs.Machine.{Head, Stack, InTree, InDefinition, InRow, State, Starts, Ruled, Named, Commands, Puts, Wants, Bare, Has, Defining, Equating, Whole, ended, with_definition, may_define, is_put, closes, step, run}
+use Rattle.mars_read.specs.Reading.{OnForm, IsNotNext, IsNoName, IsNoVariable, IsLeft}
 
 -- one refusal from another
 pub on-form : {P Q : Type 0} (e : Refusal) → (P → Q) → OnForm e P → OnForm e Q
@@ -42,24 +45,6 @@ no-put-name [] apart s ps = refl
 no-put-name ((token.Name x) ∷ rest) apart s ps = absurd (apart x rest refl)
 no-put-name (_ ∷ rest) apart s ps = refl
 
-pub no-tree : (tokens : List Token) → IsNoName tokens → (s : List ℕ) (ps : List Put) (n : List ℕ) → run tokens (Trees s ps n) ≡ None
-unfolding run step
-no-tree [] apart s ps n = refl
-no-tree ((token.Name x) ∷ rest) apart s ps n = absurd (apart x rest refl)
-no-tree (_ ∷ rest) apart s ps n = refl
-
-pub no-semicolon : (tokens : List Token) → IsNotNext token.Semicolon tokens → (s : List ℕ) (ps : List Put) (n : List ℕ) (tree : Tree) → run tokens (Reads s ps n tree) ≡ None
-unfolding run step
-no-semicolon [] apart s ps n tree = refl
-no-semicolon (token.Semicolon ∷ rest) apart s ps n tree = absurd (apart refl)
-no-semicolon (_ ∷ rest) apart s ps n tree = refl
-
-pub not-done : (tokens : List Token) → IsLeft tokens → (script : Script) → run tokens (Whole script) ≡ None
-unfolding run step
-not-done [] left script = absurd (left refl)
-not-done (token.Rules ∷ rest) left script = refl
-not-done (_ ∷ rest) left script = refl
-
 by-test : (test : Bool) (next : State) (rest : List Token) → test ≡ false →
     option_and_then (λ y. run rest y) (if test then Some next else None) ≡ None
 by-test test next rest e = rw e refl
@@ -67,6 +52,84 @@ by-test test next rest e = rw e refl
 and-false : (a b : Bool) → b ≡ false → (a && b) ≡ false
 and-false true b e = e
 and-false false b e = refl
+
+pub term-ended : (tokens : List Token) → tokens ≡ [] → (k : Stack) → run tokens (Wants k) ≡ None
+unfolding run
+term-ended tokens e k = ap (λ l. run l (Wants k)) e
+
+-- a TERM begins with a variable or a name
+pub no-term : (next : Kind) (text : List ℕ) (tokens rest : List Token) → tokens ≡ named next text ∷ rest → (next ≡ kind.Variable → ⊥) → (next ≡ kind.Name → ⊥) → (k : Stack) → run tokens (Wants k) ≡ None
+unfolding run step
+no-term kind.Variable text tokens rest e variable_not name_not k = absurd (variable_not refl)
+no-term kind.Name text tokens rest e variable_not name_not k = absurd (name_not refl)
+no-term _ text tokens rest e variable_not name_not k = ap (λ l. run l (Wants k)) e
+
+pub row-stuck : (tokens : List Token) → IsNotNext token.Comma tokens → IsNotNext token.Close tokens → (t : Written) (f : List ℕ) (front : List Written) (k : Stack) →
+    run tokens (Has t (InRow f front k)) ≡ None
+unfolding run step closes
+row-stuck [] comma close t f front k = refl
+row-stuck (token.Comma ∷ rest) comma close t f front k = absurd (comma refl)
+row-stuck (token.Close ∷ rest) comma close t f front k = absurd (close refl)
+row-stuck (_ ∷ rest) comma close t f front k = refl
+
+pub row-full : (rest : List Token) (t : Written) (f : List ℕ) (front : List Written) (k : Stack) → 15 ≤ length front → run (token.Comma ∷ rest) (Has t (InRow f front k)) ≡ None
+unfolding run step closes
+row-full rest t f front k many = by-test (nat_lt (length front) 15) (Wants (InRow f (front ++ t ∷ []) k)) rest (grind (arith, nat_tests))
+
+pub tree-stuck : (tokens : List Token) → IsNotNext token.Where tokens → IsNotNext token.Semicolon tokens → (t : Written) (h : Head) → run tokens (Has t (InTree h)) ≡ None
+unfolding run step closes
+tree-stuck [] apart open_ t h = refl
+tree-stuck (token.Where ∷ rest) apart open_ t h = absurd (apart refl)
+tree-stuck (token.Semicolon ∷ rest) apart open_ t h = absurd (open_ refl)
+tree-stuck (_ ∷ rest) apart open_ t h = refl
+
+pub no-defined-variable : (tokens : List Token) → IsNoVariable tokens → (h : Head) (t : Written) (ds : List Definition) → run tokens (Defining h t ds) ≡ None
+unfolding run step
+no-defined-variable [] apart h t ds = refl
+no-defined-variable ((token.Variable x) ∷ rest) apart h t ds = absurd (apart x rest refl)
+no-defined-variable (_ ∷ rest) apart h t ds = refl
+
+pub no-equals : (tokens : List Token) → IsNotNext token.Equals tokens → (h : Head) (t : Written) (ds : List Definition) (x : List ℕ) → run tokens (Equating h t ds x) ≡ None
+unfolding run step
+no-equals [] apart h t ds x = refl
+no-equals (token.Equals ∷ rest) apart h t ds x = absurd (apart refl)
+no-equals (_ ∷ rest) apart h t ds x = refl
+
+-- a definition that may not stand there
+pub definition-barred : (tokens : List Token) (h : Head) (whole : Written) (ds : List Definition) (x : List ℕ) (t : Written) → may_define ds x t ≡ false →
+    run tokens (Has t (InDefinition h whole ds x)) ≡ None
+unfolding run step closes
+definition-barred [] h whole ds x t barred = refl
+definition-barred (token.Comma ∷ rest) h whole ds x t barred = by-test (may_define ds x t) (Defining h whole (with_definition ds x t)) rest barred
+definition-barred (token.Semicolon ∷ rest) h whole ds x t barred = by-test (may_define ds x t) (ended h whole (with_definition ds x t)) rest barred
+definition-barred (_ ∷ rest) h whole ds x t barred = refl
+
+pub definition-stuck : (tokens : List Token) → IsNotNext token.Comma tokens → IsNotNext token.Semicolon tokens → (h : Head) (whole : Written) (ds : List Definition) (x : List ℕ) (t : Written) →
+    run tokens (Has t (InDefinition h whole ds x)) ≡ None
+unfolding run step closes
+definition-stuck [] comma open_ h whole ds x t = refl
+definition-stuck (token.Comma ∷ rest) comma open_ h whole ds x t = absurd (comma refl)
+definition-stuck (token.Semicolon ∷ rest) comma open_ h whole ds x t = absurd (open_ refl)
+definition-stuck (_ ∷ rest) comma open_ h whole ds x t = refl
+
+-- a variable alone is no definition
+pub defined-variable : (x : List ℕ) (rest : List Token) (h : Head) (whole : Written) (ds : List Definition) (v : List ℕ) → run (token.Variable x ∷ rest) (Wants (InDefinition h whole ds v)) ≡ None
+unfolding run step
+defined-variable x rest h whole ds v = definition-barred rest h whole ds v (Variable x) (and-false (not (is_among v ds)) false refl)
+
+-- the TERM of a definition begins with a name
+pub no-defined-name : (tokens : List Token) → IsNoName tokens → (h : Head) (whole : Written) (ds : List Definition) (v : List ℕ) → run tokens (Wants (InDefinition h whole ds v)) ≡ None
+unfolding run step
+no-defined-name [] apart h whole ds v = refl
+no-defined-name ((token.Name x) ∷ rest) apart h whole ds v = absurd (apart x rest refl)
+no-defined-name ((token.Variable x) ∷ rest) apart h whole ds v = defined-variable x rest h whole ds v
+no-defined-name (_ ∷ rest) apart h whole ds v = refl
+
+pub not-done : (tokens : List Token) → IsLeft tokens → (script : Script) → run tokens (Whole script) ≡ None
+unfolding run step
+not-done [] left script = absurd (left refl)
+not-done (token.Rules ∷ rest) left script = refl
+not-done (_ ∷ rest) left script = refl
 
 pub no-command-more : (tokens : List Token) → IsNotNext token.Ends tokens → (s : List ℕ) (ps : List Put) → 256 ≤ length ps → run tokens (Commands s ps) ≡ None
 unfolding run step

@@ -1,13 +1,12 @@
 -- Texts of the first form, and what a text says by numbers of names and graphs.
-use Rattle.std.specs.Prelude.{◌≡◌, ℕ, ◌+◌, ◌≤◌, List, [], ◌∷◌, length, slice_get, Option, Some, None}
+use Rattle.std.specs.Prelude.{◌≡◌, ℕ, ◌+◌, ◌<◌, ◌≤◌, List, [], ◌∷◌, length, slice_get, Option, Some, None}
 use Rattle.std.specs.List.{AllZip}
 use Rattle.mars_tree.specs.declared.label.NameId.{NameId}
-use Rattle.mars_tree.specs.declared.label.Label.TheVariants as label
-use Rattle.mars_tree.specs.Graph.{Node, labelled}
 use Rattle.mars_tree.specs.Names.{built_in_names, known_with}
 use Rattle.mars_read.specs.declared.first.First.{First}
 use Rattle.mars_read.specs.declared.first.FirstPut.{FirstPut}
-use Rattle.mars_read.specs.Written.{Written, Applied, Writtens, none, Tree, Put, Script, names_of}
+use Rattle.mars_read.specs.Written.{Put, Script, names_of}
+use Rattle.mars_read.specs.Meaning.{IsTreeOf}
 use Rattle.mars_read.specs.Token.{Token}
 use Rattle.mars_read.specs.Lexed.{IsLexed}
 use Rattle.mars_read.specs.Grammar.{IsScript}
@@ -21,19 +20,11 @@ known_all (text ∷ texts) names = known_all texts (known_with text names)
 abbrev pub IsNameOf : List (List ℕ) → List ℕ → NameId → Type 0
 IsNameOf names text id = slice_get names id.0 ≡ Some text
 
--- the graph of a name alone
-abbrev pub IsTermOf : List (List ℕ) → Written → List Node → ℕ → Type 0
-IsTermOf names (Applied f none) graph root = (id : NameId) × IsNameOf names f id × (graph ≡ labelled (label.Name id 0) [] ∷ []) × (root ≡ 0)
-IsTermOf names _ graph root = ⊥
-
--- the graph shows the tree
-abbrev pub IsTreeOf : List (List ℕ) → Tree → List Node → ℕ → Type 0
-IsTreeOf names tree graph root = IsTermOf names tree.term graph root
-
 -- a command by its numbers
 pub record IsPutOf (names : List (List ℕ)) (written : Put) (put : FirstPut) : Type 0 where
   pub name : IsNameOf names written.name put.name
   pub tree : IsTreeOf names written.tree put.graph put.root
+  pub root_in : put.root < length put.graph
 
 -- the session's name by its number, where there is a session
 abbrev pub IsSessionOf : List (List ℕ) → Option (List ℕ) → Option NameId → Type 0

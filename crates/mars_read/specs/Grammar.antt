@@ -1,12 +1,48 @@
 -- The grammar of the first form: which tokens say what.
-use Rattle.std.specs.Prelude.{ℕ, ◌≤◌, List, [], ◌∷◌, ◌++◌, length, Some, None, codes}
+use Rattle.std.specs.Prelude.{◌≡◌, ℕ, ◌≤◌, List, [], ◌∷◌, ◌++◌, length, Some, None, Bool, false, codes}
+use Rattle.std.specs.Str.{bytes_eq}
+use Rattle.std.specs.List.{list_any}
 use Rattle.mars_read.specs.Token.{Token}
 use Rattle.mars_read.specs.Token as token
-use Rattle.mars_read.specs.Written.{Written, Applied, none, Tree, Put, Script}
+use Rattle.mars_read.specs.Written.{Written, Variable, Applied, Writtens, none, more, count, Definition, Tree, Put, Script}
 
--- TREE: a NAME
+mutual
+  -- TERM: a VAR, a NAME, or a NAME and at most 16 arguments in brackets
+  pub data IsTerm : List Token → Written → Type 0 where
+    variable : {x : List ℕ} → IsTerm (token.Variable x ∷ []) (Variable x)
+    name : {f : List ℕ} → IsTerm (token.Name f ∷ []) (Applied f none)
+    applied : {f : List ℕ} {ts : List Token} {terms : Writtens} → AreTerms ts terms → count terms ≤ 16 →
+        IsTerm (token.Name f ∷ token.Open ∷ (ts ++ (token.Close ∷ []))) (Applied f terms)
+
+  -- TERM {, TERM}
+  pub data AreTerms : List Token → Writtens → Type 0 where
+    one : {ts : List Token} {t : Written} → IsTerm ts t → AreTerms ts (more t none)
+    others : {ts us : List Token} {t : Written} {terms : Writtens} → IsTerm ts t → AreTerms us terms → AreTerms (ts ++ token.Comma ∷ us) (more t terms)
+
+-- DEF: a VAR, `=`, and a TERM that isn't a variable alone
+pub data IsDefinition : List Token → Definition → Type 0 where
+  definition : {x f : List ℕ} {ts : List Token} {terms : Writtens} → IsTerm ts (Applied f terms) →
+      IsDefinition (token.Variable x ∷ token.Equals ∷ ts) (record { variable = x; term = Applied f terms })
+
+-- DEF {, DEF}
+pub data AreDefinitions : List Token → List Definition → Type 0 where
+  last : {ts : List Token} {d : Definition} → IsDefinition ts d → AreDefinitions ts (d ∷ [])
+  further : {ts us : List Token} {d : Definition} {ds : List Definition} → IsDefinition ts d → AreDefinitions us ds → AreDefinitions (ts ++ token.Comma ∷ us) (d ∷ ds)
+
+-- the variable has a definition
+abbrev pub is_among : List ℕ → List Definition → Bool
+is_among x definitions = list_any (λ d. bytes_eq x d.variable) definitions
+
+-- no variable is defined twice: none stands among those before it
+abbrev pub AreNew : List Definition → List Definition → Type 0
+AreNew before [] = Unit {0}
+AreNew before (d ∷ definitions) = (is_among d.variable before ≡ false) × AreNew (before ++ d ∷ []) definitions
+
+-- TREE: a TERM, or a TERM `where` DEF {, DEF}
 pub data IsTree : List Token → Tree → Type 0 where
-  name : {f : List ℕ} → IsTree (token.Name f ∷ []) (record { term = Applied f none; definitions = [] })
+  plain : {ts : List Token} {t : Written} → IsTerm ts t → IsTree ts (record { term = t; definitions = [] })
+  defined : {ts us : List Token} {t : Written} {ds : List Definition} → IsTerm ts t → AreDefinitions us ds → AreNew [] ds →
+      IsTree (ts ++ token.Where ∷ us) (record { term = t; definitions = ds })
 
 -- `put` NAME TREE `;`
 pub data IsPut : List Token → Put → Type 0 where

@@ -1,8 +1,11 @@
+pub mod Built
+pub mod BuiltInside
 pub mod Bytes
 pub mod First
 pub mod Grammar
 pub mod Lexed
 pub mod Machine
+pub mod Meaning
 pub mod Reading
 pub mod Seen
 pub mod Token

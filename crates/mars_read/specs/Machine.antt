@@ -1,9 +1,22 @@
 -- The reader as a machine that goes over the tokens once: what has been read, and what must come.
-use Rattle.std.specs.Prelude.{ℕ, List, [], ◌∷◌, ◌++◌, length, Option, Some, None, option_and_then, Bool, true, false, nat_lt, ◌&&◌, codes, if◌then◌else◌}
+use Rattle.std.specs.Prelude.{ℕ, List, [], ◌∷◌, ◌++◌, length, Option, Some, None, option_and_then, Bool, true, false, nat_lt, ◌&&◌, not, codes, if◌then◌else◌}
 use Rattle.std.specs.Str.{bytes_eq}
 use Rattle.mars_read.specs.Token.{Token}
 use Rattle.mars_read.specs.Token as token
-use Rattle.mars_read.specs.Written.{Written, Applied, none, Tree, Put, Script}
+use Rattle.mars_read.specs.Written.{Written, Variable, Applied, Writtens, none, more, Definition, Tree, Put, Script}
+use Rattle.mars_read.specs.Grammar.{is_among}
+
+-- where a command stands: the session, the commands before it, and its name
+pub record Head : Type 0 where
+  pub session : List ℕ
+  pub puts : List Put
+  pub name : List ℕ
+
+-- what is open: the TERM of a TREE, that of a definition behind others, or a row of arguments behind those before
+pub data Stack : Type 0 where
+  InTree : Head → Stack
+  InDefinition : Head → Written → List Definition → List ℕ → Stack
+  InRow : List ℕ → List Written → Stack → Stack
 
 pub data State : Type 0 where
   Starts : State
@@ -11,13 +24,48 @@ pub data State : Type 0 where
   Named : State
   Commands : List ℕ → List Put → State
   Puts : List ℕ → List Put → State
-  Trees : List ℕ → List Put → List ℕ → State
-  Reads : List ℕ → List Put → List ℕ → Tree → State
+  Wants : Stack → State
+  Bare : List ℕ → Stack → State
+  Has : Written → Stack → State
+  Defining : Head → Written → List Definition → State
+  Equating : Head → Written → List Definition → List ℕ → State
   Whole : Script → State
+
+-- a row of arguments and those before it
+abbrev pub joined : List Written → Writtens → Writtens
+joined [] terms = terms
+joined (t ∷ front) terms = more t (joined front terms)
+
+-- a command was read to its end
+abbrev pub ended : Head → Written → List Definition → State
+ended h t definitions = Commands h.session (h.puts ++ record { name = h.name; tree = record { term = t; definitions = definitions } } ∷ [])
+
+-- the definitions and one more
+abbrev pub with_definition : List Definition → List ℕ → Written → List Definition
+with_definition definitions x t = definitions ++ record { variable = x; term = t } ∷ []
+
+-- not a variable alone
+abbrev pub is_applied : Written → Bool
+is_applied (Variable x) = false
+is_applied (Applied f terms) = true
+
+-- the variable may have this definition
+abbrev pub may_define : List Definition → List ℕ → Written → Bool
+may_define definitions x t = not (is_among x definitions) && is_applied t
 
 -- the word of the one command
 abbrev pub is_put : List ℕ → Bool
 is_put text = bytes_eq text (codes "put")
+
+-- what comes behind a TERM
+unfoldable pub closes : Token → Written → Stack → Option State
+closes token.Comma t (InRow f front k) = if nat_lt (length front) 15 then Some (Wants (InRow f (front ++ t ∷ []) k)) else None
+closes token.Close t (InRow f front k) = Some (Has (Applied f (joined front (more t none))) k)
+closes token.Where t (InTree h) = Some (Defining h t [])
+closes token.Semicolon t (InTree h) = Some (ended h t [])
+closes token.Comma t (InDefinition h whole ds x) = if may_define ds x t then Some (Defining h whole (with_definition ds x t)) else None
+closes token.Semicolon t (InDefinition h whole ds x) = if may_define ds x t then Some (ended h whole (with_definition ds x t)) else None
+closes _ _ _ = None
 
 -- where the grammar goes with a token
 unfoldable pub step : Token → State → Option State
@@ -27,9 +75,14 @@ step token.Session Ruled = Some Named
 step (token.Name s) Named = Some (Commands s [])
 step token.Ends (Commands s ps) = Some (Whole (record { session = Some s; puts = ps }))
 step (token.Name x) (Commands s ps) = if is_put x && nat_lt (length ps) 256 then Some (Puts s ps) else None
-step (token.Name n) (Puts s ps) = Some (Trees s ps n)
-step (token.Name f) (Trees s ps n) = Some (Reads s ps n (record { term = Applied f none; definitions = [] }))
-step token.Semicolon (Reads s ps n tree) = Some (Commands s (ps ++ record { name = n; tree = tree } ∷ []))
+step (token.Name n) (Puts s ps) = Some (Wants (InTree (record { session = s; puts = ps; name = n })))
+step (token.Variable x) (Wants k) = Some (Has (Variable x) k)
+step (token.Name f) (Wants k) = Some (Bare f k)
+step token.Open (Bare f k) = Some (Wants (InRow f [] k))
+step token (Bare f k) = closes token (Applied f none) k
+step token (Has t k) = closes token t k
+step (token.Variable x) (Defining h t ds) = Some (Equating h t ds x)
+step token.Equals (Equating h t ds x) = Some (Wants (InDefinition h t ds x))
 step _ _ = None
 
 -- what a text that is read to its end says

@@ -1,5 +1,5 @@
 -- What a text of the first form says, with its names and variables by their spellings.
-use Rattle.std.specs.Prelude.{ℕ, List, [], ◌∷◌, ◌++◌, Option, Some, None}
+use Rattle.std.specs.Prelude.{ℕ, ◌+◌, List, [], ◌∷◌, ◌++◌, Option, Some, None}
 
 mutual
   -- a variable, or a name with its arguments
@@ -11,6 +11,11 @@ mutual
   pub data Writtens : Type 0 where
     none : Writtens
     more : Written → Writtens → Writtens
+
+-- how many arguments there are
+abbrev pub count : Writtens → ℕ
+count none = 0
+count (more t terms) = count terms + 1
 
 -- a variable, and the term that it stands for
 pub record Definition : Type 0 where

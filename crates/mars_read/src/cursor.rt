@@ -2,8 +2,8 @@
 ghost use Rattle.std.specs.Prelude.{◌≡◌, List, [], ◌∷◌, All, IfOk, IfErr, OnOk, IfSome, IfNone};
 ghost use Rattle.std.specs.Bool.{OnTrue, OnFalse};
 ghost use Rattle.mars_read.specs.Seen.{named, all_seen, IsWithin};
-ghost use Rattle.mars_read.specs.Token.{Name};
-ghost use Rattle.mars_read.specs.Reading.{OnForm, IsNotNext, IsNoName, IsBare, IsLeft};
+ghost use Rattle.mars_read.specs.Token.{Name, Variable};
+ghost use Rattle.mars_read.specs.Reading.{OnForm, IsNotNext, IsNoName, IsNoVariable, IsBare, IsLeft};
 
 use crate::refusal::Refusal;
 use crate::token::{Kind, Token, text_of};
@@ -76,7 +76,11 @@ impl<'a> Cursor<'a> {
         ensures taken { OnOk result (self.old ≡ named sign [] ∷ self.new) }
         ensures refused { IfErr result (λ e. OnForm e (IsNotNext (named sign []) self.old)) }
     {
-        if self.takes(sign) { Ok(()) } else { Err(Refusal::Form) }
+        if self.takes(sign) {
+            Ok(())
+        } else {
+            Err(Refusal::Form)
+        }
     }
 
     /// Takes a name, and gives its spelling.
@@ -90,13 +94,28 @@ impl<'a> Cursor<'a> {
         }
     }
 
+    /// Takes a variable, and gives its spelling.
+    pub(crate) fn variable(&mut self) -> Result<&'a [u8], Refusal>
+        ensures taken { IfOk result (λ text. self.old ≡ Variable text.now ∷ self.new) }
+        ensures refused { IfErr result (λ e. OnForm e (IsNoVariable self.old)) }
+    {
+        match self.next() {
+            Some((Kind::Variable, text)) => Ok(text),
+            _ => Err(Refusal::Form),
+        }
+    }
+
     /// Takes this word.
     pub(crate) fn word(&mut self, word: &[u8]) -> Result<(), Refusal>
         ensures taken { OnOk result (self.old ≡ Name word.now ∷ self.new) }
         ensures refused { IfErr result (λ e. OnForm e (IsNotNext (Name word.now) self.old)) }
     {
         match self.next() {
-            Some((Kind::Name, text)) => if text == word { Ok(()) } else { Err(Refusal::Form) },
+            Some((Kind::Name, text)) => if text == word {
+                Ok(())
+            } else {
+                Err(Refusal::Form)
+            },
             _ => Err(Refusal::Form),
         }
     }
@@ -106,6 +125,10 @@ impl<'a> Cursor<'a> {
         ensures done { OnOk result (self.now ≡ []) }
         ensures refused { IfErr result (λ e. OnForm e (IsLeft self.now)) }
     {
-        if self.tokens.is_empty() { Ok(()) } else { Err(Refusal::Form) }
+        if self.tokens.is_empty() {
+            Ok(())
+        } else {
+            Err(Refusal::Form)
+        }
     }
 }

@@ -128,3 +128,6 @@ pub fn lex(alloc: Global, bytes: &[u8]) -> Result<Option<Vec<Token>>, NoMemory>
 pub fn one_token_list()
     ensures { OneTokenList }
 {}
+
+#[cfg(test)]
+mod tests;

@@ -1,15 +1,22 @@
 //! Reading: from the bytes of an input to what they say.
 #![tactic(auto)]
 
+mod builder;
 mod bytes;
 mod cursor;
+mod definitions;
 mod first;
 mod lexer;
 mod reader;
+mod redirect;
 mod refusal;
+mod terms;
 mod token;
 
 pub use first::{First, FirstPut};
 pub use lexer::{lex, one_token_list};
 pub use reader::{one_script, read_first};
 pub use token::{Kind, Token, behind, text_of};
+
+#[cfg(test)]
+mod tests;

@@ -3,16 +3,19 @@ ghost use Rattle.std.specs.Prelude.{◌≡◌, ℕ, List, ◌+◌, ◌-◌, ◌^
 ghost use Rattle.mars_read.specs.Written.{Put};
 ghost use Rattle.mars_read.specs.Token.{Token, Name, Ends};
 ghost use Rattle.mars_read.specs.First.{IsReadFrom, IsNoFirstForm, OneScript, nodes_in};
-ghost use Rattle.mars_read.specs.Machine.{Starts, Ruled, Commands, Puts, Trees, run};
-ghost use Rattle.mars_read.specs.Reading.{OnForm, IsNotNext, between, ReadsTree, ReadsPut, ReadsPuts, ReadsSession, ReadsScript};
+ghost use Rattle.mars_read.specs.Machine.{Starts, Ruled, Commands, Puts, run};
+ghost use Rattle.mars_read.specs.Reading.{OnForm, IsNotNext, between, ReadsPut, ReadsPuts, ReadsSession, ReadsScript};
 
+use crate::builder::TreeBuilder;
 use crate::cursor::Cursor;
+use crate::definitions::read_rest;
 use crate::first::{First, FirstPut};
 use crate::lexer::lex;
 use crate::refusal::Refusal;
+use crate::terms::read_term;
 use crate::token::Kind;
 use mars_base::NoMemory;
-use mars_tree::{Graph, Label, NameId, Names};
+use mars_tree::{NameId, Names};
 use sqlite_items::Items;
 use std::alloc::Global;
 
@@ -21,31 +24,8 @@ const MOST_BYTES: usize = 1_048_576;
 /// How many commands a session has at most.
 const MOST_COMMANDS: usize = 256;
 
-/// TREE: its graph and root.
-fn read_tree(
-    alloc: Global,
-    tokens: &mut Cursor,
-    names: &mut Names,
-) -> Result<(Graph, usize), Refusal>
-    requires { length names.old + length tokens.old < 2 ^ 32 - 1 }
-    ensures read { IfOk result
-        (λ r. ReadsTree (between tokens.old tokens.new names.old names.new) r.0 r.1) }
-    ensures refused { IfErr result
-        (λ e. OnForm e ((s : List ℕ) (ps : List Put) (n : List ℕ) → run tokens.old (Trees s ps n) ≡ None)) }
-{
-    let text = tokens.name()?;
-    let name = names.id(text)?;
-    let mut graph = Graph::new(alloc);
-    let root = graph.add(Label::Name { name, arity: 0 })?;
-    Ok((graph, root))
-}
-
 /// NAME TREE `;`, behind the word `put`.
-fn read_put(
-    alloc: Global,
-    tokens: &mut Cursor,
-    names: &mut Names,
-) -> Result<FirstPut, Refusal>
+fn read_put(alloc: Global, tokens: &mut Cursor, names: &mut Names) -> Result<FirstPut, Refusal>
     requires { length names.old + length tokens.old < 2 ^ 32 - 1 }
     ensures read { IfOk result
         (λ put. ReadsPut (between tokens.old tokens.new names.old names.new) put) }
@@ -54,8 +34,10 @@ fn read_put(
 {
     let text = tokens.name()?;
     let name = names.id(text)?;
-    let (graph, root) = read_tree(alloc, tokens, names)?;
-    tokens.expect(Kind::Semicolon)?;
+    let mut builder = TreeBuilder::new(alloc);
+    let node = read_term(alloc, tokens, names, &mut builder)?;
+    read_rest(alloc, tokens, names, &mut builder)?;
+    let (graph, root) = builder.finish(node);
     Ok(FirstPut { name, graph, root })
 }
 

@@ -1,5 +1,6 @@
 //! Why a text isn't read.
 ghost use Rattle.std.specs.Prelude.{◌≡◌};
+
 use mars_base::NoMemory;
 use std::alloc::{AllocError, AllocFailed};
 

@@ -1,4 +1,4 @@
-use Rattle.std.proofs.Common.{◌≡◌, ℕ, List, ◌≤◌, length, ◌∙◌, ap, sym, arith, subst}
+use Rattle.std.proofs.Common.{◌≡◌, ℕ, List, ◌∙◌, ap, sym, subst}
 use Rattle.mars_read.specs.Token.{Token}
 use Rattle.mars_read.specs.Seen.{all_seen}
 use Rattle.mars_read.specs.Lexed.{IsLexed}

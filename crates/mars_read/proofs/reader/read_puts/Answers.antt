@@ -1,9 +1,7 @@
-use Rattle.std.proofs.Common.{◌∙◌, sym, arith, subst, List}
+use Rattle.std.proofs.Common.{◌∙◌, sym, arith}
 use Rattle.std.proofs.lemmas.Result.{err_from_is_err_and}
-use Rattle.mars_read.specs.Token.{Token}
-use Rattle.mars_read.specs.Reading.{ReadsPuts, between}
 use Rattle.mars_read.proofs.Refused.{on-form}
-use Rattle.mars_read.proofs.Assembly.{reads-none, reads-more, too-many, other-command, put-refused, reads-ended}
+use Rattle.mars_read.proofs.Assembly.{reads-none, reads-more, too-many, other-command, put-refused}
 use Rattle.mars_read.proofs.reader.read_puts.Goals as goal
 
 pub loop-alloc-init : goal.loop-alloc-init

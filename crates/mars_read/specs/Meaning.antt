@@ -1,0 +1,63 @@
+-- What a written tree means: what stands at the end of each path, as in a graph.
+use Rattle.std.specs.Prelude.{◌≡◌, ◌↔◌, ℕ, List, [], ◌∷◌, length, map, Option, Some, None, slice_get, if◌then◌else◌}
+use Rattle.std.specs.Option.{option_map}
+use Rattle.std.specs.Str.{bytes_eq}
+use Rattle.mars_tree.specs.declared.label.Label.TheVariants as label
+use Rattle.mars_tree.specs.Graph.{Node, Shown, end_of, shown_at}
+use Rattle.mars_tree.specs.Graph as graph
+use Rattle.mars_tree.specs.Walk.{walk}
+use Rattle.mars_read.specs.Written.{Written, Variable, Applied, Writtens, none, more, Definition, Tree}
+
+-- a row of arguments as a list
+abbrev pub listed : Writtens → List Written
+listed none = []
+listed (more t terms) = t ∷ listed terms
+
+-- what a variable stands for: the term of its definition, or itself
+abbrev pub defined : List Definition → List ℕ → Written
+defined [] x = Variable x
+defined (d ∷ definitions) x = if bytes_eq x d.variable then d.term else defined definitions x
+
+-- a term, where a variable alone gives way to what it stands for
+abbrev pub resolved : List Definition → Written → Written
+resolved definitions (Variable x) = defined definitions x
+resolved definitions (Applied f terms) = Applied f terms
+
+-- what stands below a term
+abbrev pub arguments : List Definition → Written → List Written
+arguments definitions (Variable x) = []
+arguments definitions (Applied f terms) = map (resolved definitions) (listed terms)
+
+-- a name with the number of its arguments, or a variable without a definition
+pub data Said : Type 0 where
+  name : List ℕ → ℕ → Said
+  free : List ℕ → Said
+
+abbrev pub said : Written → Said
+said (Variable x) = free x
+said (Applied f terms) = name f (length (listed terms))
+
+-- the term at the end of a path
+abbrev pub term_at : Tree → List ℕ → Option Written
+term_at tree path = walk (arguments tree.definitions) (resolved tree.definitions tree.term) path
+
+-- what a written tree says at the end of a path
+abbrev pub says : Tree → List ℕ → Option Said
+says tree path = option_map said (term_at tree path)
+
+-- no definition is of a variable alone
+abbrev pub IsApplied : Written → Type 0
+IsApplied (Variable x) = ⊥
+IsApplied (Applied f terms) = Unit {0}
+
+-- a graph shows what is said: a name by its place among the names, or a free leaf
+abbrev pub Agree : List (List ℕ) → Option Said → Option Shown → Type 0
+Agree names None None = Unit {0}
+Agree names (Some (name f count)) (Some (graph.label (label.Name id arity))) = (slice_get names id.0 ≡ Some f) × (arity ≡ count)
+Agree names (Some (free x)) (Some (graph.free n)) = Unit {0}
+Agree names _ _ = ⊥
+
+-- the graph from the root is the tree: the same along every path, and one leaf for each free variable
+pub record IsTreeOf (names : List (List ℕ)) (tree : Tree) (g : List Node) (root : ℕ) : Type 0 where
+  pub shown : (path : List ℕ) → Agree names (says tree path) (graph.at g root path)
+  pub leaves : (path other : List ℕ) (x y : List ℕ) → says tree path ≡ Some (free x) → says tree other ≡ Some (free y) → (x ≡ y) ↔ (end_of g root path ≡ end_of g root other)
