@@ -1,8 +1,13 @@
+pub mod CanonicalSteps
 pub mod Finding
+pub mod Fresh
 pub mod Lasting
 pub mod Met
 pub mod Object
+pub mod Order
+pub mod OrderInside
 pub mod Reach
+pub mod Renumber
 pub mod Rows
 pub mod Sound
 pub mod TableInside
