@@ -13,6 +13,8 @@ pub mod Quotient
 pub mod Reached
 pub mod Renumbering
 pub mod RowFacts
+pub mod StaysSound
 pub mod Stored
+pub mod SweepsSound
 pub mod Swept
 pub mod WithFresh

@@ -1,4 +1,5 @@
 pub mod CanonicalSteps
+pub mod Examples
 pub mod Finding
 pub mod Fresh
 pub mod Lasting
@@ -10,6 +11,7 @@ pub mod Reach
 pub mod Renumber
 pub mod Rows
 pub mod Sound
+pub mod SoundLaws
 pub mod TableInside
 pub mod TableLaws
 pub mod TreeGraph
