@@ -55,7 +55,6 @@ impl Table {
     pub fn intern(&mut self, who: u32, graph: &Graph, root: usize) -> Result<Handle, NoMemory>
         requires root_in { root < length graph.now }
         requires no_free_leaf { ReachesNoFree graph.now root }
-        requires no_kids { kids_of graph.now root ≡ [] }
         requires room { length self.old.rows + length graph.now ≤ self.old.limit }
         ensures kept { IfOk result (λ handle. InternsTo self.old who graph.now root handle.0 self.new) }
         ensures as_before { OnErr result (self.new ≡ self.old) }
@@ -67,8 +66,6 @@ impl Table {
     /// Keeps a tree that is given by its canonical graph.
     fn keep(&mut self, who: u32, tree: &Graph) -> Result<Handle, NoMemory>
         requires tree { IsTreeGraph tree.now }
-        requires one { length tree.now ≡ 1 }
-        requires leaf { kids_of tree.now 0 ≡ [] }
         requires room { length self.old.rows + length tree.now ≤ self.old.limit }
         ensures kept { IfOk result (λ handle. intern self.old who tree.now ≡ Interned.kept handle.0 self.new) }
         ensures as_before { OnErr result (self.new ≡ self.old) }
