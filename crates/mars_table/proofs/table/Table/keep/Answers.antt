@@ -53,3 +53,10 @@ returns-clause-kept c =
     let fits : length (rows_of p.rows) + fresh_before (rows_of p.rows) tree (length tree) ≤ p.cap = omega (arith, fresh_within (rows_of p.rows) tree (length tree), c.requires.room, old, limit) in
     ap (λ (t : TableObject). intern t c.args.who tree) (sym c.self.view_is)
     ∙ interns_kept p.rows tree c.grow.new.rows p.pins.items c.push_reserved.new.self.items p.cap c.args.who c.in_ok-row.row has fits g.root pins
+
+pub returns-clause-small : goal.returns-clause-small
+returns-clause-small c =
+    let p = c.self.inside in
+    let g = c.in_ok-row.ensures in
+    let old : length (rows_of p.rows) ≡ length c.args.self.now.rows = ap (λ (t : TableObject). length t.rows) c.self.view_is in
+    omega (arith, length-stored 0 c.grow.new.rows g.labels, g.count, fresh_within (rows_of p.rows) c.args.tree.now (length c.args.tree.now), old, length-stored 0 p.rows c.self.invariant.labels)
