@@ -44,3 +44,6 @@ fn main(rt: HostRuntime) -> ExitCode {
     let Outcome { status } = marseille_alone(rt.alloc(), &words, &mut source, &mut sink);
     ExitCode::from(code_of(status))
 }
+
+#[cfg(test)]
+mod tests;
