@@ -10,6 +10,9 @@ mod rows;
 mod search;
 mod table;
 
+#[cfg(test)]
+mod tests;
+
 pub use free::reaches_free;
 pub use laws::{
     examples, find_means, intern_keeps_met, intern_keeps_sound, intern_keeps_trees, intern_means,

@@ -57,6 +57,7 @@ impl Table {
         requires no_free_leaf { ReachesNoFree graph.now root }
         requires room { length self.old.rows + length graph.now ≤ self.old.limit }
         ensures kept { IfOk result (λ handle. InternsTo self.old who graph.now root handle.0 self.new) }
+        ensures limit { OnOk result (self.new.limit ≡ self.old.limit) }
         ensures small { OnOk result (length self.new.rows ≤ length self.old.rows + length graph.now) }
         ensures as_before { OnErr result (self.new ≡ self.old) }
     {
@@ -69,6 +70,7 @@ impl Table {
         requires tree { IsTreeGraph tree.now }
         requires room { length self.old.rows + length tree.now ≤ self.old.limit }
         ensures kept { IfOk result (λ handle. intern self.old who tree.now ≡ Interned.kept handle.0 self.new) }
+        ensures limit { OnOk result (self.new.limit ≡ self.old.limit) }
         ensures small { OnOk result (length self.new.rows ≤ length self.old.rows + length tree.now) }
         ensures as_before { OnErr result (self.new ≡ self.old) }
     {
