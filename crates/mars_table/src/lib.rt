@@ -9,7 +9,6 @@ mod renumber;
 mod rows;
 mod search;
 mod table;
-
 #[cfg(test)]
 mod tests;
 

@@ -52,6 +52,7 @@ impl Table {
     }
 
     /// Keeps the tree of a node, with a pin of `who` on it: under its old number where the tree is there.
+    /// Each distinct node that the root reaches is searched through all rows. `NoMemory` changes nothing.
     pub fn intern(&mut self, who: u32, graph: &Graph, root: usize) -> Result<Handle, NoMemory>
         requires root_in { root < length graph.now }
         requires no_free_leaf { ReachesNoFree graph.now root }
