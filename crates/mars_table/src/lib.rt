@@ -9,6 +9,8 @@ mod renumber;
 mod rows;
 mod search;
 mod table;
+#[cfg(test)]
+mod tests;
 
 pub use free::reaches_free;
 pub use laws::{

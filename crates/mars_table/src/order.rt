@@ -29,6 +29,7 @@ impl Model for Order {
 }
 
 impl Order {
+    /// No number.
     pub fn new(alloc: Global) -> Order
         ensures { result ≡ [] }
     {
@@ -49,6 +50,7 @@ impl Order {
         Ok(())
     }
 
+    /// How many numbers were met.
     pub fn len(&self) -> usize
         ensures len { result ≡ length self.now }
         ensures distinct { AreDistinct self.now }
@@ -56,6 +58,7 @@ impl Order {
         self.list.len()
     }
 
+    /// The number that was met at a place.
     pub fn get(&self, place: usize) -> usize
         requires { place < length self.now }
         ensures { slice_get self.now place ≡ Some result }
@@ -63,6 +66,7 @@ impl Order {
         self.list[place]
     }
 
+    /// The numbers alone.
     pub fn into_list(self) -> Vec<usize>
         ensures { result.items ≡ self }
     {

@@ -55,6 +55,7 @@ fn numbers_below(alloc: Global, count: usize) -> Result<Vec<usize>, NoMemory>
     Ok(all)
 }
 
+/// The same nodes in a graph of their own.
 fn copy(alloc: Global, rows: &Graph) -> Result<Graph, NoMemory>
     requires { IsGround rows.now }
     ensures copy { IfOk result (λ copy. copy ≡ rows.now) }

@@ -52,11 +52,13 @@ impl Table {
     }
 
     /// Keeps the tree of a node, with a pin of `who` on it: under its old number where the tree is there.
+    /// Each distinct node that the root reaches is searched through all rows. `NoMemory` changes nothing.
     pub fn intern(&mut self, who: u32, graph: &Graph, root: usize) -> Result<Handle, NoMemory>
         requires root_in { root < length graph.now }
         requires no_free_leaf { ReachesNoFree graph.now root }
         requires room { length self.old.rows + length graph.now ≤ self.old.limit }
         ensures kept { IfOk result (λ handle. InternsTo self.old who graph.now root handle.0 self.new) }
+        ensures limit { OnOk result (self.new.limit ≡ self.old.limit) }
         ensures small { OnOk result (length self.new.rows ≤ length self.old.rows + length graph.now) }
         ensures as_before { OnErr result (self.new ≡ self.old) }
     {
@@ -69,6 +71,7 @@ impl Table {
         requires tree { IsTreeGraph tree.now }
         requires room { length self.old.rows + length tree.now ≤ self.old.limit }
         ensures kept { IfOk result (λ handle. intern self.old who tree.now ≡ Interned.kept handle.0 self.new) }
+        ensures limit { OnOk result (self.new.limit ≡ self.old.limit) }
         ensures small { OnOk result (length self.new.rows ≤ length self.old.rows + length tree.now) }
         ensures as_before { OnErr result (self.new ≡ self.old) }
     {
