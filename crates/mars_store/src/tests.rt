@@ -49,3 +49,51 @@ fn links_lead_to_ends(rt: HostRuntime) -> Result<(), Fail> {
     assert_eq!(rt; store.deref(y), y, "the links are gone");
     Ok(())
 }
+
+/// On each level makes a mark, binds the variable of the level below, and adds one.
+fn climb(store: &mut Store, marks: &mut Vec<Mark>, levels: usize, end: NodeId) -> Result<(), NoMemory>
+    requires end_in { end < length store.old.nodes }
+    requires marks { AreMarks store.old marks.old.items }
+    ensures { OnOk result (AreMarks store.new marks.new.items) }
+{
+    let mut var = store.add_free()?;
+    for _ in 0..levels {
+        marks.push(store.mark())?;
+        bind_free(store, var, end)?;
+        var = store.add_free()?;
+    }
+    Ok(())
+}
+
+/// Undoes level by level, and counts those on which the youngest variable is free again.
+fn descend(store: &mut Store, marks: &mut Vec<Mark>) -> usize
+    requires { AreMarks store.old marks.old.items }
+{
+    let mut free: usize = 0;
+    while let Some(mark) = marks.pop() {
+        store.undo_to(mark);
+        if is_youngest_free(store) {
+            free = free.saturating_add(1);
+        }
+    }
+    free
+}
+
+fn is_youngest_free(store: &Store) -> bool {
+    match store.mark().nodes.checked_sub(1) {
+        Some(youngest) => store.deref(NodeId(youngest)) == NodeId(youngest),
+        None => false,
+    }
+}
+
+#[test]
+fn marks_lie_deep_within_each_other(rt: HostRuntime) -> Result<(), Fail> {
+    let mut store = Store::new(rt.alloc());
+    let mut marks = Vec::new(rt.alloc());
+    let end = store.add(AA, &[])?;
+    climb(&mut store, &mut marks, 10_000, end)?;
+    assert_eq!(rt; store.mark(), Mark { nodes: 10_002, bound: 10_000 }, "each level binds one variable");
+    assert_eq!(rt; descend(&mut store, &mut marks), 10_000, "each level is as it was");
+    assert_eq!(rt; store.mark(), Mark { nodes: 2, bound: 0 }, "nothing is left above the first level");
+    Ok(())
+}

@@ -52,7 +52,7 @@ list_from_gets (x ∷ xs) (y ∷ ys) e each = ap (λ z. z ∷ xs) (each 0 x y re
 list_from_gets [] (y ∷ ys) e each = absurd (omega arith)
 list_from_gets (x ∷ xs) [] e each = absurd (omega arith)
 
-map_get : (f : ℕ → ℕ) (xs : List ℕ) (k y : ℕ) → slice_get (map f xs) k ≡ Some y → (x : ℕ) × (slice_get xs k ≡ Some x) × (f x ≡ y)
+pub map_get : (f : ℕ → ℕ) (xs : List ℕ) (k y : ℕ) → slice_get (map f xs) k ≡ Some y → (x : ℕ) × (slice_get xs k ≡ Some x) × (f x ≡ y)
 map_get f xs k y e = option_map_some f (slice_get xs k) y (sym (slice_get-map f xs k) ∙ e)
 
 pub none_or_some : {A : Type 0} (o : Option A) → (o ≡ None) ⊎ ((x : A) × (o ≡ Some x))

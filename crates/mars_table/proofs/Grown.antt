@@ -1,15 +1,13 @@
 -- A graph of rows that has grown by the fresh nodes of a tree.
-use Rattle.std.proofs.Common.{◌≡◌, ℕ, zero, suc, ◌<◌, ◌≤◌, ◌+◌, Bool, true, false, cond, is_none, unwrap_or, map, List, [], ◌∷◌, ◌++◌, length, Option, Some, None, refl, sym, subst, ap, ◌∙◌, arith}
-use Rattle.std.specs.Option.{option_map}
-use Rattle.std.specs.List.{cons_option, filter_map, flat_map, range_with_len}
+use Rattle.std.proofs.Common.{◌≡◌, ℕ, zero, suc, ◌<◌, ◌≤◌, ◌+◌, Bool, true, false, cond, is_none, List, [], ◌∷◌, ◌++◌, length, Option, Some, None, refl, sym, subst, ap, ◌∙◌, arith}
+use Rattle.std.specs.List.{cons_option, flat_map}
 use Rattle.std.proofs.lemmas.List.Elements.{All-head}
 use Rattle.mars_tree.specs.Canonical.{mentions}
 use Rattle.mars_tree.proofs.Numbering.{known_after_bounds}
-use Rattle.mars_tree.specs.declared.label.Label.{Label}
 use Rattle.mars_table.specs.Finding.{find_row}
-use Rattle.mars_tree.specs.Graph.{Node, IsGraph, IsGround, label_of, kids_of, labelled}
+use Rattle.mars_tree.specs.Graph.{Node, IsGraph, IsGround}
 use Rattle.mars_table.specs.Rows.{Row, HasRow, SameRow}
-use Rattle.mars_table.specs.Object.{number_of, fresh_before, fresh_row, fresh_rows}
+use Rattle.mars_table.specs.Object.{number_of, fresh_before, fresh_rows}
 use Rattle.mars_table.specs.TableInside.{as_row, rows_from, rows_of, AreApart}
 use Rattle.mars_table.specs.TableLaws.{InternsTrees}
 use Rattle.mars_table.specs.TreeGraph.{IsTreeGraph}
@@ -53,21 +51,6 @@ fresh_within rows tree (suc n) = either (is_none (find_row rows tree n)) (fresh_
     either : (b : Bool) → fresh_before rows tree n ≤ n → fresh_before rows tree n + cond b 1 0 ≤ suc n
     either true le = omega (arith, le)
     either false le = omega (arith, le)
-
--- a leaf that is not there adds its row
-pub one_fresh : (g : List Node) (l : Label) (tree : List Node) → length tree ≡ 1 → kids_of tree 0 ≡ [] → label_of tree 0 ≡ Some l → None ≡ find_row (rows_of g) tree 0 →
-    rows_of (g ++ labelled l [] ∷ []) ≡ rows_of g ++ fresh_rows (rows_of g) (length g) tree
-one_fresh g l tree one kids label e =
-    let rows : List Row = rows_of g in
-    let next : ℕ = length g in
-    let node : ℕ → List ℕ → Option Row = λ number ks. Some (record { number = number; label = l; kids = ks }) in
-    let number : number_of rows next tree 0 ≡ length g = ap (λ (o : Option ℕ). unwrap_or o (next + 0)) (sym e) ∙ omega arith in
-    let fresh : node (length g) [] ≡ fresh_row rows next tree 0 =
-    ap (λ n. node n []) (sym number) ∙ ap (λ ks. node (number_of rows next tree 0) (map (number_of rows next tree) ks)) (sym kids)
-    ∙ ap (option_map (λ (l : Label). record { number = number_of rows next tree 0; label = l; kids = map (number_of rows next tree) (kids_of tree 0) })) (sym label)
-    ∙ ap (λ (o : Option ℕ). cond (is_none o) (option_map (λ (l : Label). record { number = number_of rows next tree 0; label = l; kids = map (number_of rows next tree) (kids_of tree 0) }) (label_of tree 0)) None) e in
-    rows_from-append 0 (length g) g (labelled l [] ∷ []) (omega arith)
-    ∙ ap (λ ys. rows ++ ys) (ap (λ (o : Option Row). cons_option o []) fresh ∙ ap (λ n. filter_map (fresh_row rows next tree) (range_with_len 0 n)) (sym one))
 
 -- a tree has a root
 pub tree_some : (tree : List Node) → IsTreeGraph tree → 0 < length tree

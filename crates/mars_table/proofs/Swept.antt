@@ -102,7 +102,7 @@ met_from true o is = (refl, is)
 met_from false o is = absurd (false≢true is)
 
 -- a filter by number keeps a row or takes it out
-row_at-filter : (q : ℕ → Bool) (rows : List Row) (h : ℕ) → row_at (filter (λ row. q row.number) rows) h ≡ cond (q h) (row_at rows h) None
+pub row_at-filter : (q : ℕ → Bool) (rows : List Row) (h : ℕ) → row_at (filter (λ row. q row.number) rows) h ≡ cond (q h) (row_at rows h) None
 row_at-filter q [] h = either (q h)
   where
     either : (b : Bool) → ◌≡◌ {A = Option Row} None (cond b None None)

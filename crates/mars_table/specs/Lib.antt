@@ -1,10 +1,17 @@
+pub mod CanonicalSteps
+pub mod Examples
 pub mod Finding
+pub mod Fresh
 pub mod Lasting
 pub mod Met
 pub mod Object
+pub mod Order
+pub mod OrderInside
 pub mod Reach
+pub mod Renumber
 pub mod Rows
 pub mod Sound
+pub mod SoundLaws
 pub mod TableInside
 pub mod TableLaws
 pub mod TreeGraph

@@ -1,5 +1,5 @@
 -- The table object that a table's fields stand for.
-use Rattle.std.specs.Prelude.{◌≡◌, ℕ, ◌+◌, ◌<◌, ◌≤◌, List, [], ◌∷◌, length, Option, All}
+use Rattle.std.specs.Prelude.{◌≡◌, ℕ, ◌+◌, ◌^◌, ◌<◌, ◌≤◌, List, [], ◌∷◌, length, Option, All}
 use Rattle.std.specs.Option.{option_map}
 use Rattle.std.specs.List.{cons_option}
 use Rattle.mars_tree.specs.Graph.{Node, IsGraph, IsGround, Same}
@@ -34,3 +34,4 @@ pub record IsKept (p : Inside) : Type 0 where
   pub apart : AreApart p.rows
   pub pinned : All (λ pin. pin.1 < length p.rows) p.pins.items
   pub within : length p.rows ≤ p.cap
+  pub fits : p.cap < 2 ^ 64

@@ -1,6 +1,8 @@
 // Laws of the table object.
+ghost use Rattle.mars_table.specs.Examples.{Examples};
 ghost use Rattle.mars_table.specs.Lasting.{InternKeepsTrees};
 ghost use Rattle.mars_table.specs.Met.{InternKeepsMet, SweepKeepsMet};
+ghost use Rattle.mars_table.specs.SoundLaws.{InternKeepsSound, InternsToLasts, NumbersAgree, OneAnswer, SweepKeepsSound};
 ghost use Rattle.mars_table.specs.TableLaws.{FindMeans, InternMeans, SweepMeans};
 
 /// A row is found exactly where it is the same tree.
@@ -31,4 +33,34 @@ pub fn sweep_keeps_met()
 /// Interning keeps the trees that are there, and its number is that of the tree.
 pub fn intern_keeps_trees()
     ensures { InternKeepsTrees }
+{}
+
+/// Interning keeps a table sound.
+pub fn intern_keeps_sound()
+    ensures { InternKeepsSound }
+{}
+
+/// What `Table::intern` answers for a node lasts: the table is sound, old trees stay, and the number is that of the node's tree.
+pub fn interns_to_lasts()
+    ensures { InternsToLasts }
+{}
+
+/// Two numbers of a sound table are one exactly where their trees are.
+pub fn numbers_agree()
+    ensures { NumbersAgree }
+{}
+
+/// The answer to interning is fixed by the tree, whatever graph gives it.
+pub fn one_answer()
+    ensures { OneAnswer }
+{}
+
+/// A sweep keeps a table sound.
+pub fn sweep_keeps_sound()
+    ensures { SweepKeepsSound }
+{}
+
+/// The table object computes on small trees.
+pub fn examples()
+    ensures { Examples }
 {}

@@ -2,12 +2,17 @@
 #![tactic(auto)]
 
 mod canonical;
+mod free;
 mod laws;
+mod order;
+mod renumber;
 mod rows;
 mod search;
 mod table;
 
+pub use free::reaches_free;
 pub use laws::{
-    find_means, intern_keeps_met, intern_keeps_trees, intern_means, sweep_keeps_met, sweep_means,
+    examples, find_means, intern_keeps_met, intern_keeps_sound, intern_keeps_trees, intern_means,
+    interns_to_lasts, numbers_agree, one_answer, sweep_keeps_met, sweep_keeps_sound, sweep_means,
 };
 pub use table::{Handle, Table};

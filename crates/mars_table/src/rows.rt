@@ -1,23 +1,98 @@
 // Rows that grow by the nodes of a tree that have none.
-ghost use Rattle.std.specs.Prelude.{◌≡◌, ◌+◌, ◌++◌, [], length, IfOk, OnOk, OnErr};
-ghost use Rattle.mars_tree.specs.Graph.{IsGraph, IsGround, kids_of};
+ghost use Rattle.std.specs.Prelude.{◌≡◌, ◌+◌, ◌^◌, ◌<◌, ◌++◌, length, map, IfOk, OnOk, OnErr};
+ghost use Rattle.std.specs.List.{range_with_len};
+ghost use Rattle.mars_tree.specs.Graph.{IsGraph, IsGround};
+ghost use Rattle.mars_table.specs.Fresh.{fresh_nodes};
 ghost use Rattle.mars_table.specs.Object.{fresh_before, fresh_rows, number_of};
+ghost use Rattle.mars_table.specs.Order.{at_places, renumbered};
 ghost use Rattle.mars_table.specs.TableInside.{rows_of, AreApart};
 ghost use Rattle.mars_table.specs.TreeGraph.{IsTreeGraph};
 
+use crate::renumber::add_nodes;
 use crate::search::find;
 use mars_base::NoMemory;
 use mars_tree::Graph;
 use std::alloc::Global;
 
+/// The number of each node of a tree, and the nodes that have no row yet.
+#[derive(Drop)]
+struct Numbered {
+    numbers: Vec<usize>,
+    fresh: Vec<usize>,
+}
+
+/// Finds the nodes of a tree among the rows; the others get the next numbers, in their order.
+fn number_nodes(alloc: Global, rows: &Graph, tree: &Graph) -> Result<Numbered, NoMemory>
+    requires labels { IsGround rows.now }
+    requires apart { AreApart rows.now }
+    requires tree { IsTreeGraph tree.now }
+    requires room { length rows.now + length tree.now < 2 ^ 64 }
+    ensures numbers { IfOk result (λ n. n.numbers.items ≡ map (number_of (rows_of rows.now) (length rows.now) tree.now) (range_with_len 0 (length tree.now))) }
+    ensures fresh { IfOk result (λ n. n.fresh.items ≡ fresh_nodes (rows_of rows.now) tree.now (length tree.now)) }
+{
+    let mut numbers = Vec::new(alloc);
+    let mut fresh = Vec::new(alloc);
+    for node in 0..tree.len() {
+        match find(alloc, rows, tree, node)? {
+            Some(row) => numbers.push(row)?,
+            None => {
+                numbers.push(rows.len() + fresh.len())?;
+                fresh.push(node)?;
+            }
+        }
+    }
+    Ok(Numbered { numbers, fresh })
+}
+
+/// The numbers below a count.
+fn numbers_below(alloc: Global, count: usize) -> Result<Vec<usize>, NoMemory>
+    ensures { IfOk result (λ all. all.items ≡ range_with_len 0 count) }
+{
+    let mut all = Vec::new(alloc);
+    for number in 0..count {
+        all.push(number)?;
+    }
+    Ok(all)
+}
+
+fn copy(alloc: Global, rows: &Graph) -> Result<Graph, NoMemory>
+    requires { IsGround rows.now }
+    ensures copy { IfOk result (λ copy. copy ≡ rows.now) }
+    ensures graph { IsGraph rows.now }
+{
+    let all = numbers_below(alloc, rows.len())?;
+    let mut copy = Graph::new(alloc);
+    add_nodes(&mut copy, rows, &all, &all)?;
+    Ok(copy)
+}
+
+/// A copy of the rows, and behind them the fresh nodes of a tree.
+fn with_fresh(
+    alloc: Global,
+    rows: &Graph,
+    tree: &Graph,
+    numbered: &Numbered,
+) -> Result<Graph, NoMemory>
+    requires labels { IsGround rows.now }
+    requires apart { AreApart rows.now }
+    requires tree { IsTreeGraph tree.now }
+    requires numbers { numbered.now.numbers.items ≡ map (number_of (rows_of rows.now) (length rows.now) tree.now) (range_with_len 0 (length tree.now)) }
+    requires fresh { numbered.now.fresh.items ≡ fresh_nodes (rows_of rows.now) tree.now (length tree.now) }
+    ensures { IfOk result (λ grown. grown ≡ rows.now ++ renumbered tree.now (at_places numbered.now.numbers.items) numbered.now.fresh.items) }
+{
+    let mut grown = copy(alloc, rows)?;
+    add_nodes(&mut grown, tree, &numbered.fresh, &numbered.numbers)?;
+    Ok(grown)
+}
+
 /// Adds the nodes of a tree that have no row, and gives the row of the root.
+/// The rows are copied where there are such nodes, so that nothing has changed where memory fails.
 pub(crate) fn grow(alloc: Global, rows: &mut Graph, tree: &Graph) -> Result<usize, NoMemory>
     requires graph { IsGraph rows.old }
     requires labels { IsGround rows.old }
     requires apart { AreApart rows.old }
     requires tree { IsTreeGraph tree.now }
-    requires one { length tree.now ≡ 1 }
-    requires leaf { kids_of tree.now 0 ≡ [] }
+    requires room { length rows.old + length tree.now < 2 ^ 64 }
     ensures rows { OnOk result (rows_of rows.new ≡ rows_of rows.old ++ fresh_rows (rows_of rows.old) (length rows.old) tree.now) }
     ensures count { OnOk result (length rows.new ≡ length rows.old + fresh_before (rows_of rows.old) tree.now (length tree.now)) }
     ensures graph { OnOk result (IsGraph rows.new) }
@@ -25,14 +100,11 @@ pub(crate) fn grow(alloc: Global, rows: &mut Graph, tree: &Graph) -> Result<usiz
     ensures root { IfOk result (λ row. row ≡ number_of (rows_of rows.old) (length rows.old) tree.now 0) }
     ensures as_before { OnErr result (rows.new ≡ rows.old) }
 {
-    match find(alloc, rows, tree, 0)? {
-        Some(row) => Ok(row),
-        None => {
-            let Some(label) = tree.label(0) else {
-                unreachable!()
-            };
-            let row = rows.add(label)?;
-            Ok(row)
-        }
+    let numbered = number_nodes(alloc, rows, tree)?;
+    let root = numbered.numbers[0];
+    if numbered.fresh.is_empty() {
+        return Ok(root);
     }
+    *rows = with_fresh(alloc, rows, tree, &numbered)?;
+    Ok(root)
 }

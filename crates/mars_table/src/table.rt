@@ -1,5 +1,5 @@
 // The table as one graph whose nodes are the rows, in the order of their numbers.
-ghost use Rattle.std.specs.Prelude.{◌≡◌, ◌+◌, ◌≤◌, ◌<◌, [], length, IfOk, OnErr};
+ghost use Rattle.std.specs.Prelude.{◌≡◌, ◌+◌, ◌≤◌, ◌<◌, [], length, IfOk, OnOk, OnErr};
 ghost use Rattle.mars_tree.specs.Graph.{kids_of};
 ghost use Rattle.mars_table.specs.Object.{empty_table, intern, Interned};
 ghost use Rattle.mars_table.specs.Reach.{ReachesNoFree};
@@ -55,9 +55,9 @@ impl Table {
     pub fn intern(&mut self, who: u32, graph: &Graph, root: usize) -> Result<Handle, NoMemory>
         requires root_in { root < length graph.now }
         requires no_free_leaf { ReachesNoFree graph.now root }
-        requires no_kids { kids_of graph.now root ≡ [] }
         requires room { length self.old.rows + length graph.now ≤ self.old.limit }
         ensures kept { IfOk result (λ handle. InternsTo self.old who graph.now root handle.0 self.new) }
+        ensures small { OnOk result (length self.new.rows ≤ length self.old.rows + length graph.now) }
         ensures as_before { OnErr result (self.new ≡ self.old) }
     {
         let tree = canonical(self.alloc, graph, root)?;
@@ -67,10 +67,9 @@ impl Table {
     /// Keeps a tree that is given by its canonical graph.
     fn keep(&mut self, who: u32, tree: &Graph) -> Result<Handle, NoMemory>
         requires tree { IsTreeGraph tree.now }
-        requires one { length tree.now ≡ 1 }
-        requires leaf { kids_of tree.now 0 ≡ [] }
         requires room { length self.old.rows + length tree.now ≤ self.old.limit }
         ensures kept { IfOk result (λ handle. intern self.old who tree.now ≡ Interned.kept handle.0 self.new) }
+        ensures small { OnOk result (length self.new.rows ≤ length self.old.rows + length tree.now) }
         ensures as_before { OnErr result (self.new ≡ self.old) }
     {
         self.pins.reserve(1)?;

@@ -32,6 +32,7 @@ pub fn unify(alloc: Global, store: &mut Store, a: NodeId, b: NodeId) -> Result<U
     ensures apart { OnNo result (AreApart store.old a b) }
     ensures kept { OnNo result (store.new ≡ store.old) }
     ensures err { OnErr result (store.new ≡ store.old) }
+    ensures nodes { store.new.nodes ≡ store.old.nodes }
     ensures system { IsSystem store.new }
 {
     let mark = store.mark();

@@ -1,25 +1,48 @@
-use Rattle.std.proofs.Common.{◌≡◌, length, ap, subst, sym, ◌∙◌, Some, List, [], ◌∷◌, ◌++◌, replicate, refl}
-use Rattle.mars_tree.specs.Label.{arity_of}
-use Rattle.mars_tree.specs.Graph.{label_of, labelled, Node, Same}
-use Rattle.mars_table.specs.TreeGraph.{IsTreeGraph}
-use Rattle.mars_table.proofs.Leaf.{leaf_arity, one_leaf, leaf_is_tree, leaf_same}
+use Rattle.std.proofs.Common.{◌∙◌, arith}
+use Rattle.mars_table.specs.Reach.{ReachesNoFree}
+use Rattle.mars_table.proofs.Least.{ground_reaches_none}
+use Rattle.mars_table.proofs.Parts.{part_graph, part_labels, part_some, part_root, part_small, part_apart, part_order}
 use Rattle.mars_table.proofs.canonical.canonical.Goals as goal
 
-pub unreachable-requires : goal.unreachable-requires
-unreachable-requires c = c.requires.no_free_leaf [] c.args.root refl (sym c.label.ensures ∙ c.in_default.is)
+pub one_for_each-requires : goal.one_for_each-requires
+one_for_each-requires c =
+    let g = c.args.graph.now in
+    let is = c.in_ok-whole.ensures in
+    let whole = c.in_ok-whole.whole in
+    record {
+      graph = part_graph g c.args.root whole is.graph c.requires.no_free_leaf is.part;
+      labels = part_labels g c.args.root whole is.graph c.requires.no_free_leaf is.part;
+      root_in = part_some g c.args.root whole is.graph c.requires.no_free_leaf is.part;
+    }
 
-pub returns-clause-is_tree : goal.returns-clause-is_tree
-returns-clause-is_tree c =
-    let l = c.in-Some.label in
-    let label : label_of c.args.graph.now c.args.root ≡ Some l = sym c.in-Some.ensures in
-    let zero : arity_of l ≡ 0 = leaf_arity c.args.graph.now c.args.root l c.len-count.ensures.graph c.requires.root_in label c.requires.no_kids in
-    subst IsTreeGraph (sym (c.in_ok-add.ensures.ok ∙ ap (λ (g : List Node). g ++ labelled l (replicate (arity_of l) (length g)) ∷ []) c.new-tree.ensures ∙ ap (λ (node : Node). node ∷ []) (one_leaf l 0 zero))) (leaf_is_tree l zero)
+pub part-requires-2-clause-no_free_leaf : goal.part-requires-2-clause-no_free_leaf
+part-requires-2-clause-no_free_leaf c =
+    let l = c.in_ok-least.ensures in
+    ground_reaches_none c.in_ok-least.least.graph c.in_ok-least.least.root l.graph l.labels l.root_in
 
-pub returns-clause-same : goal.returns-clause-same
-returns-clause-same c =
-    let l = c.in-Some.label in
-    let label : label_of c.args.graph.now c.args.root ≡ Some l = sym c.in-Some.ensures in
-    let zero : arity_of l ≡ 0 = leaf_arity c.args.graph.now c.args.root l c.len-count.ensures.graph c.requires.root_in label c.requires.no_kids in
-    subst (λ (g : List Node). Same g 0 c.args.graph.now c.args.root)
-    (sym (c.in_ok-add.ensures.ok ∙ ap (λ (g : List Node). g ++ labelled l (replicate (arity_of l) (length g)) ∷ []) c.new-tree.ensures ∙ ap (λ (node : Node). node ∷ []) (one_leaf l 0 zero)))
-    (leaf_same (labelled l [] ∷ []) c.args.graph.now 0 c.args.root l refl label refl c.requires.no_kids)
+pub returns : goal.returns
+returns c =
+    let g = c.args.graph.now in
+    let root = c.args.root in
+    let first = c.in_ok-whole.ensures in
+    let whole = c.in_ok-whole.whole in
+    let l = c.in_ok-least.ensures in
+    let least = c.in_ok-least.least.graph in
+    let at = c.in_ok-least.least.root in
+    let last = c.in_ok-tree.ensures in
+    let tree = c.in_ok-tree.tree in
+    let no_free : ReachesNoFree least at = ground_reaches_none least at l.graph l.labels l.root_in in
+    let order = part_order least at tree l.graph no_free last.part in
+    record {
+      is_tree = record {
+        graph = part_graph least at tree l.graph no_free last.part;
+        labels = part_labels least at tree l.graph no_free last.part;
+        canonical = record {
+          distinct = part_apart least at tree l.graph no_free last.part l.apart;
+          in_order = order.in_order;
+          early = order.early;
+        };
+      };
+      same = λ path. part_root least at tree l.graph no_free last.part path ∙ l.same path ∙ part_root g root whole first.graph c.requires.no_free_leaf first.part path;
+      small = omega (arith, part_small least at tree l.graph no_free last.part, l.small, part_small g root whole first.graph c.requires.no_free_leaf first.part);
+    }

@@ -1,0 +1,120 @@
+//! The commands of a text, run one after the other over one table.
+ghost use Rattle.std.specs.Prelude.{◌≡◌, ◌<◌, ◌≤◌, ◌+◌, ℕ, List, [], length, All, IfOk, OnOk};
+ghost use Rattle.mars_table.specs.Object.{empty_table};
+ghost use Rattle.mars_table.specs.Sound.{IsSound};
+ghost use Rattle.mars_read.specs.First.{nodes_in};
+ghost use Rattle.marseille.specs.Run.{IsAnswered, taken_with, IsRun, row_limit};
+ghost use Rattle.marseille.specs.Runs.{HaveRun};
+ghost use Rattle.marseille.specs.Text.{session_line};
+ghost use Rattle.marseille.specs.Ready.{IsReady, IsListed};
+
+use crate::text::{push_answer, push_counts, push_session};
+use mars_base::NoMemory;
+use mars_read::{First, FirstPut};
+use mars_table::{Handle, Table, reaches_free};
+use mars_tree::{NameId, Names};
+use std::alloc::Global;
+
+/// A table has at most so many rows.
+const ROW_LIMIT: u64 = 1_048_576;
+
+/// What a command answers.
+#[derive(Clone, Copy, Debug, PartialEq, Eq)]
+pub enum Answer {
+    /// The name was given before.
+    NameTaken,
+    /// The tree has a free leaf.
+    NotGround,
+    /// The tree is kept under this number.
+    Kept(Handle),
+}
+
+/// The names that are taken, and the table.
+#[derive(Drop)]
+struct Session {
+    taken: Vec<NameId>,
+    table: Table,
+}
+
+/// Runs one command.
+fn run_put(alloc: Global, session: &mut Session, put: &FirstPut) -> Result<Answer, NoMemory>
+    requires root { put.now.root < length put.now.graph }
+    requires room { length session.old.table.rows + length put.now.graph ≤ session.old.table.limit }
+    requires sound { IsSound session.old.table }
+    ensures answered { IfOk result (λ answer.
+        IsAnswered session.old.taken.items session.old.table put.now answer session.new.table) }
+    ensures taken { IfOk result (λ answer.
+        session.new.taken.items ≡ taken_with session.old.taken.items put.now.name answer) }
+    ensures sound { OnOk result (IsSound session.new.table) }
+    ensures small { OnOk result
+        (length session.new.table.rows ≤ length session.old.table.rows + length put.now.graph) }
+{
+    if session.taken.contains(&put.name) {
+        return Ok(Answer::NameTaken);
+    }
+    if reaches_free(alloc, &put.graph, put.root)? {
+        return Ok(Answer::NotGround);
+    }
+    let handle = session.table.intern(0, &put.graph, put.root)?;
+    session.taken.push(put.name)?;
+    Ok(Answer::Kept(handle))
+}
+
+/// Runs commands, and writes their lines.
+fn run_puts(
+    alloc: Global,
+    session: &mut Session,
+    names: &Names,
+    puts: &[FirstPut],
+    text: &mut Vec<u8>,
+) -> Result<(), NoMemory>
+    requires ready { All (IsReady names.now) puts.now }
+    requires table { session.old.table ≡ empty_table row_limit }
+    requires taken { session.old.taken.items ≡ [] }
+    requires sound { IsSound session.old.table }
+    requires room { nodes_in puts.now ≤ row_limit }
+    ensures { OnOk result
+        (HaveRun names.now text.old.items puts.now session.new.taken.items session.new.table text.new.items) }
+{
+    for put in puts {
+        let answer = run_put(alloc, session, put)?;
+        push_answer(text, names, put.name, answer)?;
+    }
+    Ok(())
+}
+
+/// The text in front of the commands: the line of the session, where there is one.
+fn opening(alloc: Global, names: &Names, session: Option<NameId>) -> Result<Vec<u8>, NoMemory>
+    requires { IsListed names.now session }
+    ensures { IfOk result (λ text. text.items ≡ session_line names.now session) }
+{
+    let mut text = Vec::new(alloc);
+    if let Some(session) = session {
+        push_session(&mut text, names, session)?;
+    }
+    Ok(text)
+}
+
+/// The text of the run of a session's commands.
+pub(crate) fn run(alloc: Global, first: &First) -> Result<Vec<u8>, NoMemory>
+    requires ready { All (IsReady first.now.names) first.now.puts }
+    requires listed { IsListed first.now.names first.now.session }
+    requires room { nodes_in first.now.puts ≤ row_limit }
+    ensures { IfOk result (λ text. IsRun first.now text.items) }
+{
+    let mut text = opening(alloc, &first.names, first.session)?;
+    let mut session = Session {
+        taken: Vec::new(alloc),
+        table: Table::new(alloc, ROW_LIMIT),
+    };
+    run_puts(
+        alloc,
+        &mut session,
+        &first.names,
+        first.puts.as_slice(),
+        &mut text,
+    )?;
+    let (rows, pins) = session.table.counts();
+    push_counts(&mut text, 0, rows, pins)?;
+    Ok(text)
+}

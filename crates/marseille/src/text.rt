@@ -1,0 +1,69 @@
+//! The lines that the program writes.
+ghost use Rattle.std.specs.Prelude.{◌≡◌, ◌++◌, ◌<◌, length, OnOk};
+ghost use Rattle.mars_table.specs.Object.{TableObject, sweep, swept, count};
+ghost use Rattle.marseille.specs.Text.{session_line, line_of, closing_line, counts_line};
+
+use crate::run::Answer;
+use itoa::Buffer;
+use mars_base::NoMemory;
+use mars_tree::{NameId, Names};
+
+/// Writes the line of a session.
+pub(crate) fn push_session(
+    text: &mut Vec<u8>,
+    names: &Names,
+    session: NameId,
+) -> Result<(), NoMemory>
+    requires { session.0 < length names.now }
+    ensures { OnOk result (text.new.items ≡ text.old.items ++ session_line names.now (Some session)) }
+{
+    text.extend_from_slice(b"session ")?;
+    text.extend_from_slice(names.text(session))?;
+    text.extend_from_slice(b"\n")?;
+    Ok(())
+}
+
+/// Writes the line of a command that gives a name.
+pub(crate) fn push_answer(
+    text: &mut Vec<u8>,
+    names: &Names,
+    name: NameId,
+    answer: Answer,
+) -> Result<(), NoMemory>
+    requires { name.0 < length names.now }
+    ensures { OnOk result (text.new.items ≡ text.old.items ++ line_of names.now name answer) }
+{
+    match answer {
+        Answer::NameTaken => text.extend_from_slice(b"name taken\n")?,
+        Answer::NotGround => text.extend_from_slice(b"not ground\n")?,
+        Answer::Kept(handle) => {
+            let mut buffer = Buffer::new();
+            text.extend_from_slice(b"kept ")?;
+            text.extend_from_slice(names.text(name))?;
+            text.extend_from_slice(b" #")?;
+            text.extend_from_slice(buffer.format(handle.0).as_bytes())?;
+            text.extend_from_slice(b"\n")?;
+        }
+    }
+    Ok(())
+}
+
+/// Writes a closing line with these numbers.
+pub(crate) fn push_counts(
+    text: &mut Vec<u8>,
+    swept: u64,
+    rows: u64,
+    pins: u64,
+) -> Result<(), NoMemory>
+    ensures { OnOk result (text.new.items ≡ text.old.items ++ counts_line swept rows pins) }
+{
+    let mut buffer = Buffer::new();
+    text.extend_from_slice(b"swept ")?;
+    text.extend_from_slice(buffer.format(swept).as_bytes())?;
+    text.extend_from_slice(b", rows ")?;
+    text.extend_from_slice(buffer.format(rows).as_bytes())?;
+    text.extend_from_slice(b", pins ")?;
+    text.extend_from_slice(buffer.format(pins).as_bytes())?;
+    text.extend_from_slice(b"\n")?;
+    Ok(())
+}

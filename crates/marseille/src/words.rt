@@ -1,0 +1,21 @@
+//! The words that the program is given.
+ghost use Rattle.std.specs.Prelude.{◌≡◌, ◌↔◌, IsTrue, codes, map, string_bytes};
+ghost use Rattle.marseille.specs.Words.{AreWords};
+
+/// Whether a word is `run`.
+fn is_run(word: &str) -> bool
+    ensures { IsTrue result ↔ (word.now ≡ codes "run") }
+{
+    word == "run"
+}
+
+/// Whether the words are taken.
+pub(crate) fn are_words(words: &[String]) -> bool
+    ensures { IsTrue result ↔ AreWords (map (λ word. string_bytes word) words.now) }
+{
+    match words {
+        [] => true,
+        [word] => is_run(word.as_str()),
+        _ => false,
+    }
+}
