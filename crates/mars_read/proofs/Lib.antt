@@ -1,3 +1,4 @@
+pub mod Agreeing
 pub mod Assembly
 pub mod Building
 pub mod Complete

@@ -1,9 +1,10 @@
 -- What a written tree means: what stands at the end of each path, as in a graph.
-use Rattle.std.specs.Prelude.{◌≡◌, ◌↔◌, ℕ, List, [], ◌∷◌, length, map, Option, Some, None, slice_get, if◌then◌else◌}
+use Rattle.std.specs.Prelude.{◌≡◌, ◌≢◌, ◌↔◌, ℕ, List, [], ◌∷◌, length, map, Option, Some, None, slice_get, if◌then◌else◌}
 use Rattle.std.specs.Option.{option_map}
 use Rattle.std.specs.Str.{bytes_eq}
 use Rattle.mars_tree.specs.declared.label.Label.TheVariants as label
-use Rattle.mars_tree.specs.Graph.{Node, Shown, end_of, shown_at}
+use Rattle.mars_tree.specs.Graph.{Node, Shown, end_of, Same}
+use Rattle.mars_tree.specs.Names.{AreDistinct}
 use Rattle.mars_tree.specs.Graph as graph
 use Rattle.mars_tree.specs.Walk.{walk}
 use Rattle.mars_read.specs.Written.{Written, Variable, Applied, Writtens, none, more, Definition, Tree}
@@ -61,3 +62,19 @@ Agree names _ _ = ⊥
 pub record IsTreeOf (names : List (List ℕ)) (tree : Tree) (g : List Node) (root : ℕ) : Type 0 where
   pub shown : (path : List ℕ) → Agree names (says tree path) (graph.at g root path)
   pub leaves : (path other : List ℕ) (x y : List ℕ) → says tree path ≡ Some (free x) → says tree other ≡ Some (free y) → (x ≡ y) ↔ (end_of g root path ≡ end_of g root other)
+
+-- no variable is left free
+abbrev pub IsClosed : Tree → Type 0
+IsClosed tree = (path x : List ℕ) → says tree path ≢ Some (free x)
+
+-- in the graph of a tree two paths show the same exactly where the tree says the same there
+abbrev pub PlacesAgree : Type 0
+PlacesAgree =
+    (names : List (List ℕ)) (tree : Tree) (g : List Node) (root : ℕ) (path other : List ℕ) → AreDistinct names → IsTreeOf names tree g root →
+    (graph.at g root path ≡ graph.at g root other) ↔ (says tree path ≡ says tree other)
+
+-- graphs of two trees without free variables are the same tree exactly where the trees say the same along every path
+abbrev pub TreesAgree : Type 0
+TreesAgree =
+    (names : List (List ℕ)) (tree other : Tree) (g h : List Node) (root start : ℕ) → AreDistinct names → IsTreeOf names tree g root → IsTreeOf names other h start → IsClosed tree → IsClosed other →
+    Same g root h start ↔ ((path : List ℕ) → says tree path ≡ says other path)

@@ -6,6 +6,7 @@ mod bytes;
 mod cursor;
 mod definitions;
 mod first;
+mod laws;
 mod lexer;
 mod reader;
 mod redirect;
@@ -14,6 +15,7 @@ mod terms;
 mod token;
 
 pub use first::{First, FirstPut};
+pub use laws::{places_agree, trees_agree};
 pub use lexer::{lex, one_token_list};
 pub use reader::{one_script, read_first};
 pub use token::{Kind, Token, behind, text_of};
