@@ -7,9 +7,11 @@ mod text;
 mod top;
 mod words;
 
+use mars_base::NoMemory;
 use mars_io::{FromReader, ToWriter};
 use status::{Outcome, Status};
 use std::alloc::Global;
+use std::io::ErrorKind;
 use std::process::ExitCode;
 use std::{env, io};
 use top::marseille_alone;
@@ -26,11 +28,17 @@ fn code_of(status: Status) -> u8 {
     }
 }
 
-/// The words behind the program's name.
-fn words_of(rt: &(impl std::rt::Env + Alloc<A = Global>)) -> io::Result<Vec<String>> {
+/// The words behind the program's name; a word that isn't text stands for words that aren't taken.
+fn words_of(rt: &(impl std::rt::Env + Alloc<A = Global>)) -> Result<Vec<String>, NoMemory> {
     let mut words = Vec::new(rt.alloc());
-    for word in env::args(rt)?.skip(1) {
-        words.push(word)?;
+    match env::args(rt) {
+        Ok(args) => {
+            for word in args.skip(1) {
+                words.push(word)?;
+            }
+        }
+        Err(error) if error.kind() == ErrorKind::OutOfMemory => return Err(NoMemory),
+        Err(_) => words.push(String::new(rt.alloc()))?,
     }
     Ok(words)
 }
@@ -44,3 +52,6 @@ fn main(rt: HostRuntime) -> ExitCode {
     let Outcome { status } = marseille_alone(rt.alloc(), &words, &mut source, &mut sink);
     ExitCode::from(code_of(status))
 }
+
+#[cfg(test)]
+mod tests;
