@@ -1,6 +1,5 @@
 -- What the graph of a written tree shows, compared at two places.
-use Rattle.std.proofs.Common.{◌≡◌, ◌≢◌, ℕ, List, refl, ap, sym, ◌∙◌, subst, Option, Some, None, slice_get}
-use Rattle.std.specs.Prelude.{◌↔◌}
+use Rattle.std.proofs.Common.{◌≡◌, ℕ, List, refl, ap, sym, ◌∙◌, subst, Option, Some, None, slice_get}
 use Rattle.std.specs.Option.{option_map}
 use Rattle.mars_tree.specs.declared.label.Label.{Label}
 use Rattle.mars_tree.specs.declared.label.Label.TheVariants as label
@@ -8,8 +7,7 @@ use Rattle.mars_tree.specs.declared.label.NameId.{NameId}
 use Rattle.mars_tree.specs.Names.{AreDistinct}
 use Rattle.mars_tree.specs.Graph.{Node, Shown, label_of, shown_at, stands, end_of, Same}
 use Rattle.mars_tree.specs.Graph as graph
-use Rattle.mars_read.specs.Written.{Tree}
-use Rattle.mars_read.specs.Meaning.{Said, name, free, says, Agree, IsTreeOf, IsClosed, PlacesAgree, TreesAgree}
+use Rattle.mars_read.specs.Meaning.{Said, name, free, says, Agree, PlacesAgree, TreesAgree}
 
 -- one name has one number
 name-number : (names : List (List ℕ)) (f : List ℕ) (id other : NameId) → AreDistinct names → slice_get names id.0 ≡ Some f → slice_get names other.0 ≡ Some f → id ≡ other

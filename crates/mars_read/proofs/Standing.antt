@@ -1,5 +1,5 @@
 -- What stands for terms and definitions stays so while a builder grows.
-use Rattle.std.proofs.Common.{◌≡◌, ◌≢◌, ℕ, zero, suc, ◌+◌, ◌<◌, List, [], ◌∷◌, ◌++◌, length, refl, ap, sym, ◌∙◌, subst, Option, Some, None, inl, inr, ◌⊎◌, Bool, true, false, slice_get, append_assoc, append-nil, arith}
+use Rattle.std.proofs.Common.{◌≡◌, ℕ, ◌<◌, List, [], ◌∷◌, ◌++◌, length, refl, ap, sym, ◌∙◌, subst, Option, Some, None, inl, inr, ◌⊎◌, Bool, true, false, slice_get, append_assoc, append-nil, arith}
 use Rattle.std.specs.Prelude.{All, IsSome, if◌then◌else◌, not, ◌==◌}
 use Rattle.std.specs.Option.{option_map_or}
 use Rattle.std.specs.Str.{bytes_eq}
@@ -14,7 +14,7 @@ use Rattle.mars_tree.specs.Graph.{Node, free_leaf, labelled}
 use Rattle.mars_read.specs.Written.{Written, Variable, Applied, Writtens, none, more, Definition}
 use Rattle.mars_read.specs.Meaning.{defined, IsApplied}
 use Rattle.mars_read.specs.Built.{Built, nothing, leaf_of, target_of, target_in, with_node, with_variable, with_target, is_defined, AddsDefinition, Stands, StandInRow, Defines, IsBeginning, Grows, IsBuilt}
-use Rattle.mars_read.proofs.Building.{with_leaf, with_variable-new, with_variable-known, leaf_in-append, leaf_in-added, leaf_in-new, slice_get-append, slice_get-new, target-added, target-new, built-leaf, built-target, eq-test}
+use Rattle.mars_read.proofs.Building.{with_leaf, with_variable-new, with_variable-known, leaf_in-append, leaf_in-added, slice_get-append, slice_get-new, target-added, target-new, built-leaf, eq-test}
 use Rattle.mars_read.proofs.Trees.{defined-cases}
 
 pub same-names : (names : List (List ℕ)) → IsBeginning names names

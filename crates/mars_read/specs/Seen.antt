@@ -1,5 +1,5 @@
 -- A token of the code, which is a kind and a place, seen with its spelling.
-use Rattle.std.specs.Prelude.{◌≡◌, ◌≢◌, ◌≤◌, ℕ, ◌-◌, List, [], ◌∷◌, length, map, take, drop}
+use Rattle.std.specs.Prelude.{◌≤◌, ℕ, ◌-◌, List, length, map, take, drop}
 use Rattle.mars_read.specs.declared.token.Kind.{Kind}
 use Rattle.mars_read.specs.declared.token.Kind.TheVariants as kind
 use Rattle.mars_read.specs.declared.token.Token.{Token as Placed}
@@ -36,14 +36,3 @@ all_seen bytes tokens = map (seen bytes) tokens
 pub record IsWithin (bytes : List ℕ) (token : Placed) : Type 0 where
   pub ordered : token.start ≤ token.end
   pub inside : token.end ≤ length bytes
-
--- a token of the kind comes next, and behind it the rest
-pub record ComesNext (kind : Kind) (tokens rest : List Placed) : Type 0 where
-  pub next : Placed
-  pub whole : tokens ≡ next ∷ rest
-  pub named : next.kind ≡ kind
-
--- no token of the kind comes next
-abbrev pub IsNotNext : Kind → List Placed → Type 0
-IsNotNext kind [] = Unit {0}
-IsNotNext kind (next ∷ rest) = next.kind ≢ kind

@@ -12,9 +12,9 @@ use mars_base::NoMemory;
 use std::alloc::Global;
 
 /// The most bytes of a word.
-pub const LONGEST_WORD: usize = 64;
+const LONGEST_WORD: usize = 64;
 /// The most brackets that may be open at once.
-pub const DEEPEST: u32 = 200;
+const DEEPEST: u32 = 200;
 
 /// How many blanks stand in front.
 fn blanks(bytes: &[u8]) -> usize
@@ -98,7 +98,7 @@ fn next_token(bytes: &[u8], start: usize) -> Option<Token>
 
 /// The tokens of a text; `None` exactly where some byte begins no token, a word has more than 64
 /// bytes, or more than 200 brackets are open at once. One pass.
-pub fn lex(alloc: Global, bytes: &[u8]) -> Result<Option<Vec<Token>>, NoMemory>
+pub(crate) fn lex(alloc: Global, bytes: &[u8]) -> Result<Option<Vec<Token>>, NoMemory>
     requires { length bytes.now < 2 ^ 32 }
     ensures some { IfOk result (λ r. IfSome r (λ tokens. IsLexed bytes.now (all_seen bytes.now tokens.items))) }
     ensures within { IfOk result (λ r. IfSome r (λ tokens. All (IsWithin bytes.now) tokens.items)) }

@@ -16,9 +16,8 @@ mod token;
 
 pub use first::{First, FirstPut};
 pub use laws::{places_agree, trees_agree};
-pub use lexer::{lex, one_token_list};
+pub use lexer::one_token_list;
 pub use reader::{one_script, read_first};
-pub use token::{Kind, Token, behind, text_of};
 
 #[cfg(test)]
 mod tests;

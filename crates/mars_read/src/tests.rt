@@ -1,6 +1,6 @@
 // What no clause says: texts are read, or refused, with ample memory.
 use super::*;
-use mars_tree::same;
+use mars_tree::Label;
 use std::alloc::Global;
 use std::test::Fail;
 
@@ -189,19 +189,41 @@ fn names_are_numbered_by_first_appearance(rt: HostRuntime) -> Result<(), Fail> {
     Ok(())
 }
 
-#[test]
-fn definitions_are_one_solution(rt: HostRuntime) -> Result<(), Fail> {
-    let alloc = rt.alloc();
-    let text =
-        "rules session ss put tt x where x = ff(y), y = gg(x); put uu x where y = gg(x), x = ff(y); put vv ff(gg(z)) where z = ff(gg(z)); put ww gg(ff(x)) where x = gg(ff(x)); end";
-    let first = read_first(alloc, text.as_bytes())?.ok_or("refused")?;
-    let one = first.puts.get(0).ok_or("no command")?;
-    for (place, is_same) in [(1, true), (2, true), (3, false)] {
-        let other = first.puts.get(place).ok_or("too few commands")?;
-        assert_eq!(rt;
-            same(alloc, &one.graph, one.root, &other.graph, other.root)?,
-            is_same
-        );
+/// The numbers of the names along the first kids from the root, at most this many.
+fn names_along(alloc: Global, put: &FirstPut, steps: usize) -> Result<Vec<u32>, Fail> {
+    let mut along = Vec::new(alloc);
+    let mut node = put.root;
+    for _ in 0..steps {
+        if node >= put.graph.len() {
+            return Ok(along);
+        }
+        if let Some(Label::Name { name, arity: _ }) = put.graph.label(node) {
+            along.push(name.0)?;
+        }
+        let Some(kid) = put.graph.kids(node).first() else {
+            return Ok(along);
+        };
+        node = *kid;
     }
+    Ok(along)
+}
+
+/// The names along the first kids of the one tree of a text.
+fn names_of_tree(alloc: Global, tree: &str) -> Result<Vec<u32>, Fail> {
+    let text = putting(alloc, tree)?;
+    let first = read_first(alloc, text.as_bytes())?.ok_or("refused")?;
+    let put = first.puts.get(0).ok_or("no command")?;
+    names_along(alloc, put, 4)
+}
+
+#[test]
+fn definitions_give_one_tree_in_each_order(rt: HostRuntime) -> Result<(), Fail> {
+    let alloc = rt.alloc();
+    let one = names_of_tree(alloc, "x where x = ff(y), y = gg(x)")?;
+    assert_eq!(rt; one.as_slice(), [15, 16, 15, 16].as_slice());
+    let other = names_of_tree(alloc, "x where y = gg(x), x = ff(y)")?;
+    assert_eq!(rt; other.as_slice(), [16, 15, 16, 15].as_slice());
+    let free = names_of_tree(alloc, "ff(gg(x), x) where y = hh(y)")?;
+    assert_eq!(rt; free.as_slice(), [15, 16].as_slice(), "a free variable");
     Ok(())
 }

@@ -1,13 +1,13 @@
 //! Tokens of the first form by their kinds and places, and the kind of a text.
-ghost use Rattle.std.specs.Prelude.{◌≡◌, ℕ, List, ◌∷◌, IfSome, IfNone};
+ghost use Rattle.std.specs.Prelude.{◌≡◌, ℕ, List, ◌∷◌};
 ghost use Rattle.mars_read.specs.Token.{are_digits_and_primes, is_variable, is_identifier, spelled, word_of, sign_of, token_of};
-ghost use Rattle.mars_read.specs.Seen.{named, text_at, IsWithin, ComesNext, IsNotNext};
+ghost use Rattle.mars_read.specs.Seen.{named, text_at, IsWithin};
 
 use crate::bytes::{is_digit, is_letter};
 
 /// What a token is.
 #[derive(Clone, Copy, Debug, PartialEq, Eq)]
-pub enum Kind {
+pub(crate) enum Kind {
     /// The four reserved identifiers.
     Rules,
     Session,
@@ -28,29 +28,18 @@ pub enum Kind {
 
 /// A token's kind, and the places where its bytes begin and end.
 #[derive(Clone, Copy, Debug)]
-pub struct Token {
-    pub kind: Kind,
-    pub start: u32,
-    pub end: u32,
+pub(crate) struct Token {
+    pub(crate) kind: Kind,
+    pub(crate) start: u32,
+    pub(crate) end: u32,
 }
 
 /// A token's bytes.
-pub fn text_of(bytes: &[u8], token: Token) -> &[u8]
+pub(crate) fn text_of(bytes: &[u8], token: Token) -> &[u8]
     requires { IsWithin bytes.now token }
     ensures { result.now ≡ text_at bytes.now token }
 {
     &bytes[token.start as usize..token.end as usize]
-}
-
-/// What stands behind a token of the kind, if one comes next.
-pub fn behind<'a>(tokens: &'a [Token], kind: Kind) -> Option<&'a [Token]>
-    ensures found { IfSome result (λ rest. ComesNext kind tokens.now rest.now) }
-    ensures none { IfNone result (IsNotNext kind tokens.now) }
-{
-    match tokens.split_first() {
-        Some((next, rest)) => { if next.kind == kind { Some(rest) } else { None } }
-        None => None,
-    }
 }
 
 /// Whether the bytes are digits, then primes.
