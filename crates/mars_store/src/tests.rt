@@ -37,6 +37,7 @@ fn links_lead_to_ends(rt: HostRuntime) -> Result<(), Fail> {
     let x = store.add_free()?;
     let y = store.add_free()?;
     let fx = store.add(FF, &[x])?;
+    assert_eq!(rt; store.kid(fx, 0), x, "the kid is the one that was added");
     let mark = store.mark();
     assert!(rt; bind_free(&mut store, y, x)?, "two variables");
     assert_eq!(rt; store.deref(y), x, "the younger is linked to the older");
@@ -51,7 +52,12 @@ fn links_lead_to_ends(rt: HostRuntime) -> Result<(), Fail> {
 }
 
 /// On each level makes a mark, binds the variable of the level below, and adds one.
-fn climb(store: &mut Store, marks: &mut Vec<Mark>, levels: usize, end: NodeId) -> Result<(), NoMemory>
+fn climb(
+    store: &mut Store,
+    marks: &mut Vec<Mark>,
+    levels: usize,
+    end: NodeId,
+) -> Result<(), NoMemory>
     requires end_in { end < length store.old.nodes }
     requires marks { AreMarks store.old marks.old.items }
     ensures { OnOk result (AreMarks store.new marks.new.items) }
@@ -92,8 +98,23 @@ fn marks_lie_deep_within_each_other(rt: HostRuntime) -> Result<(), Fail> {
     let mut marks = Vec::new(rt.alloc());
     let end = store.add(AA, &[])?;
     climb(&mut store, &mut marks, 10_000, end)?;
-    assert_eq!(rt; store.mark(), Mark { nodes: 10_002, bound: 10_000 }, "each level binds one variable");
-    assert_eq!(rt; descend(&mut store, &mut marks), 10_000, "each level is as it was");
-    assert_eq!(rt; store.mark(), Mark { nodes: 2, bound: 0 }, "nothing is left above the first level");
+    assert_eq!(rt;
+        store.mark(),
+        Mark {
+            nodes: 10_002,
+            bound: 10_000
+        },
+        "each level binds one variable"
+    );
+    assert_eq!(rt;
+        descend(&mut store, &mut marks),
+        10_000,
+        "each level is as it was"
+    );
+    assert_eq!(rt;
+        store.mark(),
+        Mark { nodes: 2, bound: 0 },
+        "nothing is left above the first level"
+    );
     Ok(())
 }

@@ -1,7 +1,6 @@
-use Rattle.std.proofs.Common.{◌≡◌, ◌<◌, ◌≤◌, ◌+◌, ◌∷◌, [], length, length-append, sym, subst, ap, ◌∙◌, arith}
+use Rattle.std.proofs.Common.{◌≡◌, ◌<◌, ◌≤◌, ◌+◌, ◌∷◌, [], length, length-append, ap, ◌∙◌, arith}
 use Rattle.mars_tree.specs.Graph.{free_leaf}
 use Rattle.mars_store.specs.System.{System, with_node}
-use Rattle.mars_store.specs.Marks.{AreMarks}
 use Rattle.mars_store.proofs.Marks.{marks-push, marks-kept, grows-node}
 use Rattle.mars_store.proofs.tests.climb.Goals as goal
 
