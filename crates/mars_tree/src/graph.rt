@@ -1,3 +1,4 @@
+//! Term graphs: nodes with labels over kids, and free leaves, in flat vectors.
 ghost use Rattle.std.specs.Prelude.{◌≡◌, ◌<◌, ◌≤◌, ◌+◌, ◌++◌, ◌∷◌, [], length, replicate, slice_get, Some, IfOk, OnOk, OnErr, All, take, drop};
 ghost use Rattle.mars_tree.specs.Label.{arity_of};
 ghost use Rattle.mars_tree.specs.Graph.{IsGraph, label_of, kids_of, with_kid, labelled, free_leaf};
@@ -29,6 +30,7 @@ impl Model for Graph {
 }
 
 impl Graph {
+    /// A graph without nodes.
     pub fn new(alloc: Global) -> Graph
         ensures { result ≡ [] }
     {
@@ -39,7 +41,7 @@ impl Graph {
         }
     }
 
-    /// Adds a node whose kids are all itself.
+    /// Adds a node whose kids are all itself, and gives its number, which is how many nodes there were.
     pub fn add(&mut self, label: Label) -> Result<usize, NoMemory>
         ensures node { IfOk result (λ n. n ≡ length self.old) }
         ensures ok { OnOk result (self.new ≡ self.old ++ labelled label (replicate (arity_of label) (length self.old)) ∷ []) }
@@ -55,7 +57,7 @@ impl Graph {
         Ok(node)
     }
 
-    /// Adds a free leaf.
+    /// Adds a free leaf, and gives its number.
     pub fn add_free(&mut self) -> Result<usize, NoMemory>
         ensures node { IfOk result (λ n. n ≡ length self.old) }
         ensures ok { OnOk result (self.new ≡ self.old ++ free_leaf ∷ []) }
@@ -69,6 +71,7 @@ impl Graph {
         Ok(node)
     }
 
+    /// Makes node `to` the kid of `node` at a place, counted from 0.
     pub fn set_kid(&mut self, node: usize, place: usize, to: usize)
         requires node_in { node < length self.old }
         requires place_in { place < length (kids_of self.old node) }
@@ -79,6 +82,7 @@ impl Graph {
         self.kids[start + place] = to;
     }
 
+    /// How many nodes there are.
     pub fn len(&self) -> usize
         ensures len { result ≡ length self.now }
         ensures graph { IsGraph self.now }
@@ -105,6 +109,7 @@ impl Graph {
         }
     }
 
+    /// The kid of a node at a place, counted from 0.
     pub fn kid(&self, node: usize, place: usize) -> usize
         requires node_in { node < length self.now }
         requires place_in { place < length (kids_of self.now node) }

@@ -10,7 +10,7 @@ mod sameness;
 
 pub use graph::Graph;
 pub use label::{Label, NameId};
-pub use laws::{one_canonical_graph, one_canonical_ground_graph, short_paths_decide};
+pub use laws::{examples, one_canonical_graph, one_canonical_ground_graph, short_paths_decide};
 pub use names::Names;
 pub use sameness::same;
 

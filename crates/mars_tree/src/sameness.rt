@@ -1,3 +1,4 @@
+//! Whether two nodes are the same tree, finite or infinite.
 ghost use Rattle.std.specs.Prelude.{◌≡◌, ◌<◌, ◌≤◌, ◌↔◌, IsTrue, ℕ, length, IfOk, OnOk, Contains};
 ghost use Rattle.mars_tree.specs.Graph.{IsGround, Same, kids_of};
 ghost use Rattle.mars_tree.specs.Kids.{IsKidPair};
@@ -25,7 +26,8 @@ fn meet_kids(a: &Graph, i: usize, b: &Graph, j: usize, pairs: &mut Pairs) -> Res
     Ok(())
 }
 
-/// Whether two nodes are the same tree: the labels agree along every path.
+/// Whether two nodes are the same tree: the labels agree along every path. Each pair of nodes is met once, so time and
+/// memory are in proportion to the pairs that are met. The error is want of memory alone.
 pub fn same(alloc: Global, a: &Graph, n: usize, b: &Graph, m: usize) -> Result<bool, NoMemory>
     requires n_in { n < length a.now }
     requires m_in { m < length b.now }
