@@ -3,7 +3,7 @@ use Rattle.std.specs.Prelude.{ℕ, List, [], ◌∷◌, ◌++◌, length, Option
 use Rattle.std.specs.Str.{bytes_eq}
 use Rattle.mars_read.specs.Token.{Token}
 use Rattle.mars_read.specs.Token as token
-use Rattle.mars_read.specs.Written.{Written, Variable, Applied, Writtens, none, more, Definition, Tree, Put, Script}
+use Rattle.mars_read.specs.Written.{Written, Variable, Applied, Writtens, none, more, Definition, Put, Script}
 use Rattle.mars_read.specs.Grammar.{is_among}
 
 -- where a command stands: the session, the commands before it, and its name
