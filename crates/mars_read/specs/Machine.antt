@@ -18,15 +18,20 @@ pub data Stack : Type 0 where
   InDefinition : Head → Written → List Definition → List ℕ → Stack
   InRow : List ℕ → List Written → Stack → Stack
 
+-- what must come next, and what has been read; a state that stands for a text, Whole, has nothing behind it
 pub data State : Type 0 where
   Starts : State
+  -- behind `rules`, and behind `session`
   Ruled : State
   Named : State
+  -- a command or `end`, behind the commands before; a command's name
   Commands : List ℕ → List Put → State
   Puts : List ℕ → List Put → State
+  -- a TERM; what stands behind a NAME, which may have arguments; what stands behind a TERM
   Wants : Stack → State
   Bare : List ℕ → Stack → State
   Has : Written → Stack → State
+  -- a definition's variable, and `=` behind it
   Defining : Head → Written → List Definition → State
   Equating : Head → Written → List Definition → List ℕ → State
   Whole : Script → State
