@@ -1,5 +1,5 @@
 -- What was read, put together from its parts.
-use Rattle.std.proofs.Common.{◌≡◌, ℕ, ◌^◌, ◌-◌, ◌<◌, ◌≤◌, ◌+◌, List, [], ◌∷◌, ◌++◌, length, map, refl, ap, sym, ◌∙◌, subst, Option, Some, None, append_assoc, append-nil, arith, length-append}
+use Rattle.std.proofs.Common.{◌≡◌, ℕ, ◌^◌, ◌-◌, ◌<◌, ◌≤◌, ◌+◌, List, [], ◌∷◌, ◌++◌, length, refl, ap, sym, ◌∙◌, subst, Option, Some, None, append_assoc, append-nil, arith, length-append}
 use Rattle.std.specs.Prelude.{codes}
 use Rattle.std.specs.List.{AllZip}
 use Rattle.std.proofs.lemmas.List.{length-map}
@@ -10,12 +10,12 @@ use Rattle.mars_read.specs.declared.first.First.{First}
 use Rattle.mars_read.specs.declared.first.FirstPut.{FirstPut}
 use Rattle.mars_read.specs.Token.{Token}
 use Rattle.mars_read.specs.Token as token
-use Rattle.mars_read.specs.Written.{Written, Definition, Tree, Put, Script, names_in, names_of_definitions, names_of_tree, names_of_puts}
+use Rattle.mars_read.specs.Written.{Written, Tree, Put, names_in, names_of_definitions, names_of_tree, names_of_puts}
 use Rattle.mars_read.specs.Meaning.{IsTreeOf}
 use Rattle.mars_read.specs.Built.{Built, nothing, Stands, Defines, graph_of, redirected}
 use Rattle.mars_read.specs.Grammar.{IsPut, put, ArePuts, no_puts, puts, IsScript, empty, session}
-use Rattle.mars_read.specs.Machine.{Head, Stack, InTree, State, Starts, Ruled, Named, Commands, Puts, Wants, Has, Whole, step, run}
-use Rattle.mars_read.specs.First.{known_all, IsNameOf, IsPutOf, IsSessionOf, IsFirstOf, nodes_in}
+use Rattle.mars_read.specs.Machine.{Head, Stack, InTree, Starts, Ruled, Named, Commands, Puts, Wants, Has, step, run}
+use Rattle.mars_read.specs.First.{known_all, IsNameOf, IsPutOf, IsSessionOf, nodes_in}
 use Rattle.mars_read.specs.Reading.{between, view, ReadsTerm, ReadsRest, ReadsPut, ReadsPuts, ReadsSession, ReadsScript, IsNotNext, IsNoName, IsLeft}
 use Rattle.mars_read.proofs.Naming.{Grows, grows-all, known-all-append, known-length, name-stays, name-listed, puts-stay, zip-push, zip-length}
 use Rattle.mars_read.proofs.Complete.{word-runs, puts-run}

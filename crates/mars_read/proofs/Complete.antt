@@ -1,12 +1,12 @@
 -- Whatever is in the grammar, the machine goes over it.
-use Rattle.std.proofs.Common.{◌≡◌, ℕ, ◌<◌, ◌≤◌, ◌+◌, List, [], ◌∷◌, ◌++◌, length, refl, ap, sym, ◌∙◌, Option, Some, None, append_assoc, append-nil, arith, length-append}
-use Rattle.std.specs.Prelude.{option_and_then, nat_lt, ◌&&◌, not, Bool, true, false, if◌then◌else◌, codes}
+use Rattle.std.proofs.Common.{◌≡◌, ℕ, ◌<◌, ◌≤◌, ◌+◌, List, [], ◌∷◌, ◌++◌, length, refl, ap, ◌∙◌, Some, None, append_assoc, append-nil, arith, length-append}
+use Rattle.std.specs.Prelude.{option_and_then, nat_lt, Bool, true, false, if◌then◌else◌, codes}
 use Rattle.std.proofs.lemmas.Bool.Decides.{nat_tests}
 use Rattle.mars_read.specs.Token.{Token}
 use Rattle.mars_read.specs.Token as token
-use Rattle.mars_read.specs.Written.{Written, Variable, Applied, Writtens, none, more, count, Definition, Tree, Put, Script}
-use Rattle.mars_read.specs.Grammar.{IsTerm, variable, name, applied, AreTerms, one, others, IsDefinition, definition, AreDefinitions, last, further, is_among, AreNew, IsTree, plain, defined, IsPut, put, ArePuts, no_puts, puts, IsScript, empty, session}
-use Rattle.mars_read.specs.Machine.{Head, Stack, InTree, InDefinition, InRow, State, Starts, Ruled, Named, Commands, Puts, Wants, Bare, Has, Defining, Equating, Whole, joined, ended, with_definition, may_define, is_applied, is_put, closes, step, run}
+use Rattle.mars_read.specs.Written.{Written, Applied, Writtens, none, more, count, Definition, Tree, Put, Script}
+use Rattle.mars_read.specs.Grammar.{IsTerm, variable, name, applied, AreTerms, one, others, definition, AreDefinitions, last, further, is_among, AreNew, IsTree, plain, defined, IsPut, put, ArePuts, no_puts, puts, IsScript, empty, session}
+use Rattle.mars_read.specs.Machine.{Head, Stack, InTree, InDefinition, InRow, State, Starts, Commands, Puts, Wants, Bare, Has, Defining, joined, ended, with_definition, may_define, is_applied, closes, step, run}
 use Rattle.mars_read.specs.Reading.{IsNotNext}
 
 -- `ts ++ (sign ∷ [])` and what is behind it

@@ -1,21 +1,20 @@
 -- Definitions while they are read: one, those in front of it, and what stands behind a TERM.
-use Rattle.std.proofs.Common.{◌≡◌, ℕ, zero, suc, ◌<◌, ◌≤◌, ◌+◌, List, [], ◌∷◌, ◌++◌, length, refl, ap, sym, ◌∙◌, subst, Option, Some, None, All, Bool, true, false, append_assoc, append-nil, arith, length-append}
-use Rattle.std.specs.Prelude.{not, ◌&&◌, ◌||◌, if◌then◌else◌}
+use Rattle.std.proofs.Common.{◌≡◌, ℕ, ◌+◌, List, [], ◌∷◌, ◌++◌, length, refl, ap, sym, ◌∙◌, subst, None, All, Bool, true, false, append_assoc, append-nil, arith}
+use Rattle.std.specs.Prelude.{◌||◌, if◌then◌else◌}
 use Rattle.std.specs.Str.{bytes_eq}
-use Rattle.std.specs.List.{list_any}
 use Rattle.std.proofs.lemmas.List.Elements.{All-head, All-tail}
 use Rattle.mars_read.specs.Token.{Token}
 use Rattle.mars_read.specs.Token as token
-use Rattle.mars_read.specs.Written.{Written, Variable, Applied, Writtens, none, more, count, Definition, names_in, names_of_definitions}
-use Rattle.mars_read.specs.Grammar.{IsTerm, IsDefinition, definition, AreDefinitions, last, further, is_among, AreNew, IsTree, plain, defined}
-use Rattle.mars_read.specs.Machine.{Head, Stack, InTree, InDefinition, Wants, Bare, Has, Defining, Equating, ended, with_definition, may_define, is_applied, closes, step, run}
+use Rattle.mars_read.specs.Written.{Written, Variable, Applied, Definition, names_in, names_of_definitions}
+use Rattle.mars_read.specs.Grammar.{IsDefinition, definition, AreDefinitions, last, further, is_among, AreNew, IsTree, plain, defined}
+use Rattle.mars_read.specs.Machine.{Head, Stack, InTree, InDefinition, Wants, Bare, Has, Defining, Equating, may_define, is_applied, step, run}
 use Rattle.mars_read.specs.Meaning.{IsApplied}
 use Rattle.mars_read.specs.Meaning as meaning
 use Rattle.mars_read.specs.Built.{Built, with_variable, AddsDefinition, is_defined, Stands, Defines, IsBuilt}
 use Rattle.mars_read.specs.First.{known_all}
-use Rattle.mars_read.specs.Reading.{View, view, Keeps, Fits, IsNotNext, IsNoName, IsNoVariable, ReadsNamed, ReadsDefinition, ReadsDefinitions, ReadsRest}
+use Rattle.mars_read.specs.Reading.{View, view, Fits, IsNotNext, IsNoName, ReadsNamed, ReadsDefinition, ReadsDefinitions, ReadsRest}
 use Rattle.mars_read.proofs.Naming.{known-all-append}
-use Rattle.mars_read.proofs.Complete.{further-runs, last-runs, where-runs}
+use Rattle.mars_read.proofs.Complete.{further-runs, where-runs}
 use Rattle.mars_read.proofs.Refused.{no-equals, no-defined-name, definition-barred, definition-stuck, tree-stuck}
 use Rattle.mars_read.proofs.Standing.{same-names, grows-definition, stands-grown, defined-applied, undefined-variable, defines-definition}
 use Rattle.mars_read.proofs.Views.{variable-nodes, variable-longer}

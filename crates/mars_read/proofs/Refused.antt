@@ -10,9 +10,9 @@ use Rattle.mars_read.specs.declared.token.Kind.TheVariants as kind
 use Rattle.mars_read.specs.Seen.{named}
 use Rattle.mars_read.specs.Token.{Token}
 use Rattle.mars_read.specs.Token as token
-use Rattle.mars_read.specs.Written.{Written, Variable, Applied, Writtens, Definition, Tree, Put, Script}
+use Rattle.mars_read.specs.Written.{Written, Variable, Definition, Put, Script}
 use Rattle.mars_read.specs.Grammar.{is_among}
-use Rattle.mars_read.specs.Machine.{Head, Stack, InTree, InDefinition, InRow, State, Starts, Ruled, Named, Commands, Puts, Wants, Bare, Has, Defining, Equating, Whole, ended, with_definition, may_define, is_put, closes, step, run}
+use Rattle.mars_read.specs.Machine.{Head, Stack, InTree, InDefinition, InRow, State, Starts, Ruled, Named, Commands, Puts, Wants, Has, Defining, Equating, Whole, ended, with_definition, may_define, is_put, closes, step, run}
 use Rattle.mars_read.specs.Reading.{OnForm, IsNotNext, IsNoName, IsNoVariable, IsLeft}
 
 -- one refusal from another

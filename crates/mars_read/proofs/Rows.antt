@@ -1,17 +1,17 @@
 -- TERMs while they are read: a variable, a name, and a name with a row of arguments.
-use Rattle.std.proofs.Common.{◌≡◌, ℕ, zero, suc, ◌<◌, ◌≤◌, ◌+◌, List, [], ◌∷◌, ◌++◌, length, refl, ap, sym, ◌∙◌, subst, Option, Some, None, All, append_assoc, append-nil, arith, length-append}
+use Rattle.std.proofs.Common.{◌≡◌, ℕ, ◌<◌, ◌≤◌, ◌+◌, List, [], ◌∷◌, ◌++◌, length, refl, ap, sym, ◌∙◌, subst, Some, None, All, append_assoc, append-nil, arith, length-append}
 use Rattle.std.specs.List.{AllZip}
 use Rattle.std.proofs.lemmas.List.Elements.{All-push, All-weaker}
 use Rattle.mars_tree.specs.Names.{number_of, known_with}
 use Rattle.mars_tree.specs.declared.label.NameId.{NameId}
 use Rattle.mars_tree.specs.declared.label.Label.TheVariants as label
-use Rattle.mars_tree.specs.Graph.{Node, labelled}
+use Rattle.mars_tree.specs.Graph.{labelled}
 use Rattle.mars_read.specs.Token.{Token}
 use Rattle.mars_read.specs.Token as token
 use Rattle.mars_read.specs.Written.{Written, Variable, Applied, Writtens, none, more, count, names_in, names_in_all}
 use Rattle.mars_read.specs.Grammar.{IsTerm, variable, name, applied, AreTerms, one, others}
 use Rattle.mars_read.specs.Machine.{Stack, InRow, Wants, Bare, Has, joined, closes, step, run}
-use Rattle.mars_read.specs.Built.{Built, leaf_of, with_node, with_variable, Stands, StandInRow, IsBuilt}
+use Rattle.mars_read.specs.Built.{Built, leaf_of, with_node, with_variable, Stands, IsBuilt}
 use Rattle.mars_read.specs.First.{known_all, IsNameOf}
 use Rattle.mars_read.specs.Reading.{View, view, Keeps, Fits, IsNotNext, ReadsTerm, ReadsNamed, ReadsRow, ClosesRow}
 use Rattle.mars_read.proofs.Naming.{Grows, grows-with, grows-all, known-all-append, known-length, name-stays, name-listed, zip-push, zip-length}

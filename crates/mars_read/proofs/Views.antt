@@ -1,15 +1,12 @@
 -- What stands for a term still does when names, nodes and variables are added.
-use Rattle.std.proofs.Common.{Bool, true, false, if◌then◌else◌, is_some, ◌≡◌, ℕ, zero, suc, ◌<◌, ◌≤◌, ◌+◌, List, [], ◌∷◌, ◌++◌, length, refl, ap, sym, ◌∙◌, subst, Option, Some, None, append_assoc, append-nil, arith, length-append, slice_get}
+use Rattle.std.proofs.Common.{Bool, true, false, if◌then◌else◌, is_some, ℕ, ◌≤◌, ◌+◌, List, [], ◌∷◌, ◌++◌, length, refl, ap, arith, length-append}
 use Rattle.std.specs.List.{AllZip}
-use Rattle.mars_tree.specs.declared.label.NameId.{NameId}
-use Rattle.mars_tree.specs.declared.label.Label.TheVariants as label
-use Rattle.mars_tree.specs.Graph.{Node, labelled, free_leaf}
-use Rattle.mars_tree.specs.Names.{known_with}
+use Rattle.mars_tree.specs.Graph.{Node, free_leaf}
 use Rattle.mars_read.specs.Token.{Token}
-use Rattle.mars_read.specs.Written.{Written, Variable, Applied, Writtens, none, more, count, Definition}
+use Rattle.mars_read.specs.Written.{Written, none}
 use Rattle.mars_read.specs.Machine.{joined}
-use Rattle.mars_read.specs.Built.{Built, nothing, leaf_of, with_node, with_variable, AddsDefinition, is_defined, Stands, StandInRow, Defines, IsBeginning, IsBuilt}
-use Rattle.mars_read.specs.Reading.{View, view, Keeps, Fits}
+use Rattle.mars_read.specs.Built.{Built, leaf_of, with_node, with_variable, Stands, StandInRow, IsBeginning, IsBuilt}
+use Rattle.mars_read.specs.Reading.{View, view, Keeps}
 use Rattle.mars_read.proofs.Naming.{Grows}
 use Rattle.mars_read.proofs.Standing.{same-names, grows-not, grows-node, grows-variable, stands-grown, defines-longer, defines-node, defines-variable}
 

@@ -3,7 +3,7 @@ use Rattle.std.specs.Prelude.{ℕ, List, [], ◌∷◌, ◌++◌, length, Option
 use Rattle.std.specs.Str.{bytes_eq}
 use Rattle.mars_read.specs.Token.{Token}
 use Rattle.mars_read.specs.Token as token
-use Rattle.mars_read.specs.Written.{Written, Variable, Applied, Writtens, none, more, Definition, Tree, Put, Script}
+use Rattle.mars_read.specs.Written.{Written, Variable, Applied, Writtens, none, more, Definition, Put, Script}
 use Rattle.mars_read.specs.Grammar.{is_among}
 
 -- where a command stands: the session, the commands before it, and its name
@@ -18,15 +18,20 @@ pub data Stack : Type 0 where
   InDefinition : Head → Written → List Definition → List ℕ → Stack
   InRow : List ℕ → List Written → Stack → Stack
 
+-- what must come next, and what has been read; a state that stands for a text, Whole, has nothing behind it
 pub data State : Type 0 where
   Starts : State
+  -- behind `rules`, and behind `session`
   Ruled : State
   Named : State
+  -- a command or `end`, behind the commands before; a command's name
   Commands : List ℕ → List Put → State
   Puts : List ℕ → List Put → State
+  -- a TERM; what stands behind a NAME, which may have arguments; what stands behind a TERM
   Wants : Stack → State
   Bare : List ℕ → Stack → State
   Has : Written → Stack → State
+  -- a definition's variable, and `=` behind it
   Defining : Head → Written → List Definition → State
   Equating : Head → Written → List Definition → List ℕ → State
   Whole : Script → State

@@ -1,7 +1,7 @@
 -- What the functions of the reader say: which tokens they took, and what those say.
-use Rattle.std.specs.Prelude.{◌≡◌, ℕ, ◌+◌, ◌≤◌, ◌<◌, List, [], ◌∷◌, ◌++◌, length, codes, Some, None, Bool, false}
+use Rattle.std.specs.Prelude.{◌≡◌, ℕ, ◌+◌, ◌≤◌, ◌<◌, List, [], ◌∷◌, ◌++◌, length, codes, false}
 use Rattle.std.specs.List.{AllZip}
-use Rattle.mars_tree.specs.Graph.{Node, labelled}
+use Rattle.mars_tree.specs.Graph.{labelled}
 use Rattle.mars_tree.specs.declared.label.Label.TheVariants as label
 use Rattle.mars_tree.specs.declared.label.NameId.{NameId}
 use Rattle.mars_read.specs.declared.refusal.Refusal.{Refusal}
@@ -12,9 +12,9 @@ use Rattle.mars_read.specs.declared.token.Kind.{Kind}
 use Rattle.mars_read.specs.Seen.{named}
 use Rattle.mars_read.specs.Token.{Token}
 use Rattle.mars_read.specs.Token as token
-use Rattle.mars_read.specs.Written.{Written, Applied, Writtens, Definition, Tree, Put, Script, names_in, names_in_all, names_of_definitions, names_of_tree, names_of_puts}
-use Rattle.mars_read.specs.Grammar.{IsTerm, AreTerms, IsDefinition, AreDefinitions, IsTree, IsPut, ArePuts, IsScript, AreNew, is_among}
-use Rattle.mars_read.specs.Machine.{Head, Stack, InTree, InDefinition, InRow, State, Wants, Bare, Has, Defining, ended, run, joined}
+use Rattle.mars_read.specs.Written.{Written, Applied, Writtens, Definition, Put, Script, names_in, names_in_all, names_of_definitions, names_of_tree, names_of_puts}
+use Rattle.mars_read.specs.Grammar.{IsTerm, IsDefinition, AreDefinitions, IsTree, IsPut, ArePuts, IsScript, AreNew, is_among}
+use Rattle.mars_read.specs.Machine.{Head, Stack, InDefinition, InRow, Wants, Bare, Has, Defining, run}
 use Rattle.mars_read.specs.Built.{Built, Stands, Defines, IsBuilt, with_node}
 use Rattle.mars_read.specs.First.{known_all, IsNameOf, IsPutOf, IsFirstOf, nodes_in}
 

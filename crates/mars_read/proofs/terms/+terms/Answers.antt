@@ -1,11 +1,11 @@
-use Rattle.std.proofs.Common.{◌≡◌, ℕ, List, ◌∷◌, ◌∙◌, sym, arith, ap, length}
-use Rattle.std.proofs.lemmas.Result.{err_from_is_err_and, IfOk-weaker, IfErr-weaker}
+use Rattle.std.proofs.Common.{◌≡◌, ℕ, List, ◌∷◌, ◌∙◌, arith, ap, length}
+use Rattle.std.proofs.lemmas.Result.{IfOk-weaker, IfErr-weaker}
 use Rattle.mars_read.specs.declared.token.Kind.{Kind}
 use Rattle.mars_read.specs.declared.token.Kind.TheVariants as kind
 use Rattle.mars_read.specs.Seen.{named}
 use Rattle.mars_read.specs.Token.{Token}
 use Rattle.mars_read.proofs.Refused.{on-form, no-term, term-ended}
-use Rattle.mars_read.proofs.Rows.{term-variable, term-named, term-refused, name-known, named-alone, named-row, named-refused, row-begins, row-more, row-over, row-unclosed, row-closed, row-refused}
+use Rattle.mars_read.proofs.Rows.{term-variable, term-named, term-refused, name-known, named-alone, named-row, named-refused, row-begins, row-more, row-over, row-unclosed, row-closed}
 use Rattle.mars_read.proofs.terms.+terms.Goals as goal
 
 pub read_named-returns-then-takes-clause-read : goal.read_named-returns-then-takes-clause-read
