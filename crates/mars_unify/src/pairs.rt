@@ -16,7 +16,7 @@ const FEW: usize = 8;
 #[derive(Drop)]
 pub(crate) struct Pairs {
     alloc: Global,
-    list: SmallVec<(NodeId, NodeId), 8>,
+    list: SmallVec<(NodeId, NodeId), FEW>,
     index: HashSet<(NodeId, NodeId)>,
 }
 
@@ -25,11 +25,12 @@ impl Model for Pairs {
 
     ghost Value = { List (ℕ × ℕ) };
 
+    ghost use Rattle.mars_unify.specs.declared.pairs.TheConstants.{FEW};
     ghost use Rattle.mars_unify.specs.Met.{IsIndex};
 
     ghost view = { λ p. p.list.items };
 
-    ghost invariant = { λ p. 8 ≤ length p.list.items → IsIndex p.index p.list.items };
+    ghost invariant = { λ p. FEW ≤ length p.list.items → IsIndex p.index p.list.items };
 }
 
 impl Pairs {
@@ -69,7 +70,7 @@ impl Pairs {
     }
 
     fn add_to_few(&mut self, pair: (NodeId, NodeId)) -> Result<(), NoMemory>
-        requires { length self.old < 8 }
+        requires { length self.old < FEW }
         ensures ok { OnOk result (self.new ≡ with_pair self.old pair) }
         ensures err { OnErr result (self.new ≡ self.old) }
     {
@@ -85,7 +86,7 @@ impl Pairs {
 
     /// Adds a new pair, and makes the index.
     fn push_and_index(&mut self, pair: (NodeId, NodeId)) -> Result<(), NoMemory>
-        requires { length self.old < 8 }
+        requires { length self.old < FEW }
         ensures ok { OnOk result (self.new ≡ self.old ++ pair ∷ []) }
         ensures err { OnErr result (self.new ≡ self.old) }
     {
@@ -96,7 +97,7 @@ impl Pairs {
     }
 
     fn add_to_many(&mut self, pair: (NodeId, NodeId)) -> Result<(), NoMemory>
-        requires { 8 ≤ length self.old }
+        requires { FEW ≤ length self.old }
         ensures ok { OnOk result (self.new ≡ with_pair self.old pair) }
         ensures err { OnErr result (self.new ≡ self.old) }
     {
