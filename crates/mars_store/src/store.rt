@@ -14,7 +14,7 @@ use std::alloc::Global;
 use std::marker::Model;
 
 /// A system of equations over its nodes, each a label over older nodes, or a variable that may be bound.
-/// A variable that isn't bound is linked to itself.
+/// A node that isn't bound is linked to itself. At `NoMemory` each call leaves the store as before.
 #[derive(Drop)]
 pub struct Store {
     nodes: Nodes,
@@ -80,7 +80,8 @@ impl Store {
         Ok(NodeId(node))
     }
 
-    /// Makes a variable equal to the end of a node's links: of two variables the younger is linked to the older.
+    /// Makes a free variable, itself an end of links, equal to the other end that a node's links lead to:
+    /// of two variables the younger is linked to the older. Linear in the links.
     pub fn bind(&mut self, var: NodeId, to: NodeId) -> Result<(), NoMemory>
         requires var_in { var < length self.old.nodes }
         requires free { label_of self.old.nodes var ≡ None }
@@ -109,7 +110,7 @@ impl Store {
         }
     }
 
-    /// The end of a node's links.
+    /// The end of a node's links, linear in these.
     pub fn deref(&self, node: NodeId) -> NodeId
         requires { node < length self.now.nodes }
         ensures end { result ≡ resolve self.now.bound node }

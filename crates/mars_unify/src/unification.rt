@@ -18,8 +18,10 @@ pub enum Unified {
     No,
 }
 
-/// Makes two nodes equal: its answer is no exactly where they have the same tree in no solution.
+/// Makes two nodes equal: its answer is no exactly where they have the same tree in no solution. After no, and at
+/// `NoMemory`, the store is as before.
 ///
+/// Equations are over finite and infinite trees, after Colmerauer (1982 and 1984), so there is no occurs check.
 /// A pair of labelled nodes is met once, so the time is in proportion to the pairs that are met and their kids;
 /// among few pairs nothing is hashed, and nothing is allocated for them.
 pub fn unify(alloc: Global, store: &mut Store, a: NodeId, b: NodeId) -> Result<Unified, NoMemory>
