@@ -15,7 +15,9 @@ pub enum Reading {
     Whole(Vec<u8>),
     /// One byte more than the limit.
     Long(Vec<u8>),
+    /// The source failed.
     Failed,
+    /// There was no memory for the bytes.
     NoMemory,
 }
 
