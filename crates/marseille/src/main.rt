@@ -16,18 +16,6 @@ use std::process::ExitCode;
 use std::{env, io};
 use top::marseille_alone;
 
-/// The number that stands for a status, 0 to 5.
-fn code_of(status: Status) -> u8 {
-    match status {
-        Status::Done => 0,
-        Status::Refused => 1,
-        Status::Words => 2,
-        Status::Memory => 3,
-        Status::Read => 4,
-        Status::Write => 5,
-    }
-}
-
 /// The words behind the program's name; a word that isn't text stands for words that aren't taken.
 fn words_of(rt: &(impl std::rt::Env + Alloc<A = Global>)) -> Result<Vec<String>, NoMemory> {
     let mut words = Vec::new(rt.alloc());
@@ -45,12 +33,12 @@ fn words_of(rt: &(impl std::rt::Env + Alloc<A = Global>)) -> Result<Vec<String>,
 
 fn main(rt: HostRuntime) -> ExitCode {
     let Ok(words) = words_of(&rt) else {
-        return ExitCode::from(3);
+        return ExitCode::from(Status::Memory as u8);
     };
     let mut source = FromReader::new(rt.reader());
     let mut sink = ToWriter::new(io::writer(&rt));
     let Outcome { status } = marseille_alone(rt.alloc(), &words, &mut source, &mut sink);
-    ExitCode::from(code_of(status))
+    ExitCode::from(status as u8)
 }
 
 #[cfg(test)]
