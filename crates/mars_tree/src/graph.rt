@@ -2,8 +2,9 @@
 ghost use Rattle.std.specs.Prelude.{◌≡◌, ◌<◌, ◌≤◌, ◌+◌, ◌++◌, ◌∷◌, [], length, replicate, slice_get, Some, IfOk, OnOk, OnErr, All, take, drop};
 ghost use Rattle.mars_tree.specs.Label.{arity_of};
 ghost use Rattle.mars_tree.specs.Graph.{IsGraph, label_of, kids_of, with_kid, labelled, free_leaf};
+ghost use Rattle.mars_tree.specs.Stored.{kid_count, starts_from, nodes_of};
 
-use crate::label::Label;
+use crate::label::{Label, kid_places};
 use mars_base::NoMemory;
 use std::alloc::Global;
 use std::marker::Model;
@@ -39,6 +40,25 @@ impl Graph {
             starts: Vec::new(alloc),
             kids: Vec::new(alloc),
         }
+    }
+
+    /// The graph with these labels, where the kids of each node stand behind those of the node before. Linear in the
+    /// labels.
+    pub fn from_lists(
+        alloc: Global,
+        labels: Vec<Option<Label>>,
+        kids: Vec<usize>,
+    ) -> Result<Graph, NoMemory>
+        requires size { length kids.items ≡ kid_count labels.items }
+        requires in_range { All (λ kid. kid < length labels.items) kids.items }
+        ensures { IfOk result (λ g. g ≡ nodes_of labels.items kids.items) }
+    {
+        let starts = starts_of(alloc, &labels, kids.len())?;
+        Ok(Graph {
+            labels,
+            starts,
+            kids,
+        })
     }
 
     /// Adds a node whose kids are all itself, and gives its number, which is how many nodes there were.
@@ -103,10 +123,7 @@ impl Graph {
         requires { node < length self.now }
         ensures { result ≡ length (kids_of self.now node) }
     {
-        match self.labels[node] {
-            Some(label) => label.arity(),
-            None => 0,
-        }
+        kid_places(self.labels[node])
     }
 
     /// The kid of a node at a place, counted from 0.
@@ -127,6 +144,20 @@ impl Graph {
     {
         part(&self.kids, self.starts[node], self.arity(node))
     }
+}
+
+/// Where the kids of each label begin, of so many kids.
+fn starts_of(alloc: Global, labels: &[Option<Label>], size: usize) -> Result<Vec<usize>, NoMemory>
+    requires { size ≡ kid_count labels.now }
+    ensures { IfOk result (λ starts. starts.items ≡ starts_from 0 labels.now) }
+{
+    let mut starts = Vec::with_capacity(alloc, labels.len())?;
+    let mut start = 0;
+    for k in 0..labels.len() {
+        starts.push_reserved(start);
+        start += kid_places(labels[k]);
+    }
+    Ok(starts)
 }
 
 /// As many numbers as are asked for, from a place on.
