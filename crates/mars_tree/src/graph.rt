@@ -4,6 +4,8 @@ ghost use Rattle.mars_tree.specs.Label.{arity_of};
 ghost use Rattle.mars_tree.specs.Graph.{IsGraph, label_of, kids_of, with_kid, labelled, free_leaf};
 ghost use Rattle.mars_tree.specs.Stored.{kid_count, starts_from, nodes_of};
 
+mod equality;
+
 use crate::label::{Label, kid_places};
 use mars_base::NoMemory;
 use std::alloc::Global;
