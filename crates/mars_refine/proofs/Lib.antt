@@ -1,0 +1,5 @@
+pub mod Linking
+pub mod Numbers
+pub mod Parting
+pub mod Refining
+pub mod Splitting

@@ -1,0 +1,40 @@
+use Rattle.std.specs.Prelude.{◌≡◌, ◌↔◌, ℕ, ◌<◌, ◌≤◌, List, [], ◌∷◌, Bool, false, length, slice_index_or, slice_set, Contains}
+use Rattle.mars_refine.specs.Refine.{class_of, Moved}
+
+-- the class of each node, how many classes there are, and which nodes are marked
+pub record Parted : Type 0 where
+  pub of : List ℕ
+  pub count : ℕ
+  pub marked : List Bool
+
+abbrev pub is_marked : List Bool → ℕ → Bool
+is_marked marked u = slice_index_or marked u false
+
+-- the list with a value at each of the places
+abbrev pub put_all : {X : Type 0} → List X → List ℕ → X → List X
+put_all xs [] value = xs
+put_all xs (place ∷ places) value = put_all (slice_set xs place value) places value
+
+-- each class is parted into its marked nodes and the others, and no node is marked
+pub record IsSplit (old new : Parted) : Type 0 where
+  pub size : length new.of ≡ length old.of
+  pub more : old.count ≤ new.count
+  pub moved : Moved old.of old.count new.of
+  pub parts : (u v : ℕ) → u < length old.of → v < length old.of → (class_of new.of u ≡ class_of new.of v) ↔ ((class_of old.of u ≡ class_of old.of v) × (is_marked old.marked u ≡ is_marked old.marked v))
+  pub unmarked : (u : ℕ) → u < length old.of → is_marked new.marked u ≡ false
+
+-- the nodes of a class
+abbrev pub AreMembers : List ℕ → ℕ → List ℕ → Type 0
+AreMembers of class members = (u : ℕ) → Contains members u ↔ ((u < length of) × (class_of of u ≡ class))
+
+-- no node is marked
+abbrev pub AreFree : Parted → Type 0
+AreFree p = (u : ℕ) → u < length p.of → is_marked p.marked u ≡ false
+
+-- each class is parted into the nodes of which a fact holds and the others, and no node is marked
+pub record IsSplitBy (P : ℕ → Type 0) (old new : Parted) : Type 0 where
+  pub size : length new.of ≡ length old.of
+  pub more : old.count ≤ new.count
+  pub moved : Moved old.of old.count new.of
+  pub parts : (u v : ℕ) → u < length old.of → v < length old.of → (class_of new.of u ≡ class_of new.of v) ↔ ((class_of old.of u ≡ class_of old.of v) × (P u ↔ P v))
+  pub free : AreFree new

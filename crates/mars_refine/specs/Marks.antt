@@ -1,0 +1,18 @@
+use Rattle.std.specs.Prelude.{◌≡◌, ◌↔◌, ℕ, ◌<◌, List, length, slice_index_or, Option, Some, None}
+use Rattle.mars_tree.specs.declared.label.Label.{Label}
+use Rattle.mars_tree.specs.Graph.{Node, shown_at, label_of}
+use Rattle.mars_refine.specs.declared.marks.Shown.{Shown}
+use Rattle.mars_refine.specs.declared.marks.Shown.TheVariants as variant
+
+-- numbers of nodes that are equal exactly where the same is shown
+pub record AreNumbers (g : List Node) (numbers : List ℕ) : Type 0 where
+  pub size : length numbers ≡ length g
+  pub below : (u : ℕ) → u < length g → slice_index_or numbers u 0 < length g
+  pub same : (u v : ℕ) → u < length g → v < length g → (slice_index_or numbers u 0 ≡ slice_index_or numbers v 0) ↔ (shown_at g u ≡ shown_at g v)
+
+abbrev pub shown_from : Option Label → ℕ → Shown
+shown_from (Some label) n = variant.Label label
+shown_from None n = variant.Free n
+
+abbrev pub shown_of : List Node → ℕ → Shown
+shown_of g n = shown_from (label_of g n) n

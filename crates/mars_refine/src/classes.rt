@@ -1,0 +1,274 @@
+//! A partition of nodes into classes that are split, the smaller part under a new number.
+ghost use Rattle.std.specs.Prelude.{◌≡◌, ◌⊎◌, ◌<◌, ◌≤◌, ◌+◌, [], ℕ, true, false, length, slice_set, IfOk, OnOk, OnErr, All, replicate, slice_range};
+ghost use Rattle.mars_refine.specs.Classes.{Parted, AreMembers, IsSplit, put_all};
+ghost use Rattle.mars_refine.specs.ClassesInside.{IsPartedInside, AreTouched, parted_of, SplitsOne, span_of};
+ghost use Rattle.mars_refine.specs.Refine.{class_of};
+
+use mars_base::NoMemory;
+use std::alloc::Global;
+use std::marker::Model;
+
+/// Classes of nodes, of which some nodes may be marked.
+#[derive(Drop)]
+pub struct Classes {
+    parts: Parts,
+    touched: Vec<usize>,
+}
+
+/// The nodes of a class stand next to each other in `order`, those that are marked in front.
+#[derive(Drop)]
+struct Parts {
+    of: Vec<usize>,
+    order: Vec<usize>,
+    place: Vec<usize>,
+    spans: Vec<Span>,
+    marked: Vec<bool>,
+}
+
+/// Where the nodes of a class stand: the marked ones from `start` to `middle`, the others from there to `end`.
+#[derive(Clone, Copy)]
+struct Span {
+    start: usize,
+    middle: usize,
+    end: usize,
+}
+
+impl Model for Classes {
+    ghost use Rattle.mars_refine.specs.Classes.{Parted};
+    ghost use Rattle.mars_refine.specs.ClassesInside.{IsPartedInside, AreTouched, parted_of};
+
+    ghost Value = { Parted };
+
+    ghost view = { λ c. parted_of c.parts };
+
+    ghost invariant = { λ c. IsPartedInside c.parts × AreTouched (parted_of c.parts) c.touched.items };
+}
+
+impl Classes {
+    /// All nodes in one class.
+    pub(crate) fn new(alloc: Global, count: usize) -> Result<Classes, NoMemory>
+        ensures of { IfOk result (λ c. c.of ≡ replicate count 0) }
+        ensures marked { IfOk result (λ c. c.marked ≡ replicate count false) }
+    {
+        let parts = all_in_one(alloc, count)?;
+        Ok(Classes {
+            parts,
+            touched: Vec::new(alloc),
+        })
+    }
+
+    /// How many classes there are.
+    pub fn count(&self) -> usize
+        ensures count { result ≡ self.now.count }
+        ensures below { (u : ℕ) → u < length self.now.of → class_of self.now.of u < result }
+        ensures few { result ≤ length self.now.of }
+    {
+        self.parts.spans.len()
+    }
+
+    /// The class of a node.
+    pub fn of(&self, node: usize) -> usize
+        requires { node < length self.now.of }
+        ensures class { result ≡ class_of self.now.of node }
+        ensures below { result < self.now.count }
+    {
+        self.parts.of[node]
+    }
+
+    /// The nodes of a class.
+    pub fn members(&self, class: usize) -> &[usize]
+        requires { class < self.now.count }
+        ensures members { AreMembers self.now.of class result.now }
+        ensures some { 0 < length result.now }
+    {
+        let span = self.parts.spans[class];
+        slice(&self.parts.order, span.start, span.end)
+    }
+
+    /// Marks a node.
+    pub(crate) fn mark(&mut self, node: usize) -> Result<(), NoMemory>
+        requires { node < length self.old.of }
+        ensures of { self.new.of ≡ self.old.of }
+        ensures count { self.new.count ≡ self.old.count }
+        ensures sized { length self.new.marked ≡ length self.new.of }
+        ensures marked { OnOk result (self.new.marked ≡ slice_set self.old.marked node true) }
+    {
+        self.touched.push(self.parts.of[node])?;
+        move_front(&mut self.parts, node);
+        Ok(())
+    }
+
+    /// Parts the marked nodes of each class from the others, and takes all marks away.
+    pub(crate) fn split(&mut self) -> Result<(), NoMemory>
+        ensures { OnOk result (IsSplit self.old self.new) }
+    {
+        split_each(&mut self.parts, &self.touched)?;
+        self.touched.clear();
+        Ok(())
+    }
+}
+
+fn all_in_one(alloc: Global, count: usize) -> Result<Parts, NoMemory>
+    ensures parted { IfOk result (λ p. IsPartedInside p) }
+    ensures of { IfOk result (λ p. p.of.items ≡ replicate count 0) }
+    ensures marked { IfOk result (λ p. p.marked.items ≡ replicate count false) }
+{
+    let mut order = Vec::new(alloc);
+    for node in 0..count {
+        order.push(node)?;
+    }
+    let mut place = Vec::new(alloc);
+    for node in 0..count {
+        place.push(node)?;
+    }
+    let mut spans = Vec::new(alloc);
+    if count > 0 {
+        spans.push(Span {
+            start: 0,
+            middle: 0,
+            end: count,
+        })?;
+    }
+    Ok(Parts {
+        of: vec![in alloc; 0; count]?,
+        order,
+        place,
+        spans,
+        marked: vec![in alloc; false; count]?,
+    })
+}
+
+fn slice(numbers: &[usize], from: usize, to: usize) -> &[usize]
+    requires order { from ≤ to }
+    requires within { to ≤ length numbers.now }
+    ensures { result.now ≡ slice_range numbers.now from to }
+{
+    &numbers[from..to]
+}
+
+/// Moves a node to the front of its class, behind those that are marked, and marks it.
+fn move_front(parts: &mut Parts, node: usize)
+    requires parted { IsPartedInside parts.old }
+    requires node_in { node < length parts.old.of.items }
+    ensures parted { IsPartedInside parts.new }
+    ensures of { parts.new.of.items ≡ parts.old.of.items }
+    ensures count { length parts.new.spans.items ≡ length parts.old.spans.items }
+    ensures marked { parts.new.marked.items ≡ slice_set parts.old.marked.items node true }
+{
+    if parts.marked[node] {
+        return;
+    }
+    let class = parts.of[node];
+    let middle = parts.spans[class].middle;
+    let at = parts.place[node];
+    let other = parts.order[middle];
+    parts.order[at] = other;
+    parts.place[other] = at;
+    parts.order[middle] = node;
+    parts.place[node] = middle;
+    parts.spans[class].middle = middle + 1;
+    parts.marked[node] = true;
+}
+
+/// Writes a value at each of the places.
+fn write_all<T: Copy + Drop>(values: &mut Vec<T>, places: &[usize], value: T)
+    requires { All (λ p. p < length values.old.items) places.now }
+    ensures { values.new.items ≡ put_all values.old.items places.now value }
+{
+    for place in places {
+        values[*place] = value;
+    }
+}
+
+/// The two in the order of their lengths.
+fn smaller_first(front: Span, back: Span) -> (Span, Span)
+    requires front_is { front.start ≤ front.end }
+    requires back_is { back.start ≤ back.end }
+    ensures { (result ≡ (front, back)) ⊎ (result ≡ (back, front)) }
+{
+    if front.end - front.start <= back.end - back.start {
+        (front, back)
+    } else {
+        (back, front)
+    }
+}
+
+/// Parts the marked nodes of a class from the others, where there are some of each.
+fn part_class(parts: &mut Parts, class: usize) -> Result<(), NoMemory>
+    requires parted { IsPartedInside parts.old }
+    requires class_in { class < length parts.old.spans.items }
+    requires some_marked { (span_of parts.old.spans.items class).start < (span_of parts.old.spans.items class).middle }
+    requires some_others { (span_of parts.old.spans.items class).middle < (span_of parts.old.spans.items class).end }
+    ensures parted { IsPartedInside parts.new }
+    ensures ok { OnOk result (SplitsOne class (parted_of parts.old) (parted_of parts.new)) }
+    ensures err { OnErr result (parted_of parts.new ≡ parted_of parts.old) }
+{
+    let Span { start, middle, end } = parts.spans[class];
+    let new = parts.spans.len();
+    let front = Span {
+        start,
+        middle: start,
+        end: middle,
+    };
+    let back = Span {
+        start: middle,
+        middle,
+        end,
+    };
+    let (less, more) = smaller_first(front, back);
+    parts.spans.push(less)?;
+    parts.spans[class] = more;
+    write_all(
+        &mut parts.of,
+        slice(&parts.order, less.start, less.end),
+        new,
+    );
+    write_all(&mut parts.marked, slice(&parts.order, start, middle), false);
+    Ok(())
+}
+
+/// Takes the marks away from a class of which all nodes are marked or none.
+fn unmark_class(parts: &mut Parts, class: usize)
+    requires parted { IsPartedInside parts.old }
+    requires class_in { class < length parts.old.spans.items }
+    requires whole { ((span_of parts.old.spans.items class).middle ≤ (span_of parts.old.spans.items class).start) ⊎ ((span_of parts.old.spans.items class).end ≤ (span_of parts.old.spans.items class).middle) }
+    ensures parted { IsPartedInside parts.new }
+    ensures ok { SplitsOne class (parted_of parts.old) (parted_of parts.new) }
+{
+    let Span { start, middle, end } = parts.spans[class];
+    parts.spans[class] = Span {
+        start,
+        middle: start,
+        end,
+    };
+    write_all(&mut parts.marked, slice(&parts.order, start, middle), false);
+}
+
+/// Parts the marked nodes of a class from the others.
+fn split_class(parts: &mut Parts, class: usize) -> Result<(), NoMemory>
+    requires parted { IsPartedInside parts.old }
+    requires class_in { class < length parts.old.spans.items }
+    ensures parted { IsPartedInside parts.new }
+    ensures ok { OnOk result (SplitsOne class (parted_of parts.old) (parted_of parts.new)) }
+    ensures err { OnErr result (parted_of parts.new ≡ parted_of parts.old) }
+{
+    let span = parts.spans[class];
+    if span.start >= span.middle || span.middle >= span.end {
+        unmark_class(parts, class);
+        return Ok(());
+    }
+    part_class(parts, class)
+}
+
+fn split_each(parts: &mut Parts, touched: &[usize]) -> Result<(), NoMemory>
+    requires parted { IsPartedInside parts.old }
+    requires touched { AreTouched (parted_of parts.old) touched.now }
+    ensures parted { IsPartedInside parts.new }
+    ensures ok { OnOk result (IsSplit (parted_of parts.old) (parted_of parts.new)) }
+    ensures touched { OnErr result (AreTouched (parted_of parts.new) touched.now) }
+{
+    for class in touched {
+        split_class(parts, *class)?;
+    }
+    Ok(())
+}

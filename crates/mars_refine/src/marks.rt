@@ -1,0 +1,85 @@
+//! Numbers for what is shown at nodes.
+ghost use Rattle.std.specs.Prelude.{◌≡◌, ◌<◌, ◌≤◌, ◌+◌, ◌-◌, ℕ, length, IfOk, OnOk, All, slice_index_or};
+ghost use Rattle.mars_refine.specs.Classes.{AreFree, IsSplitBy};
+ghost use Rattle.mars_refine.specs.Marks.{AreNumbers, shown_of};
+ghost use Rattle.mars_refine.specs.Refine.{IsRefining};
+ghost use Rattle.mars_refine.specs.Chains.{Keyed};
+
+use crate::chains::Chains;
+use crate::classes::Classes;
+use indexmap::IndexSet;
+use mars_base::NoMemory;
+use mars_tree::{Graph, Label};
+use std::alloc::Global;
+
+/// What is shown at a node: a label, or a free leaf by its number.
+#[derive(Clone, Copy, Debug, PartialEq, Eq, Hash)]
+pub enum Shown {
+    Label(Label),
+    Free(usize),
+}
+
+fn shown_at(graph: &Graph, node: usize) -> Shown
+    requires { node < length graph.now }
+    ensures { result ≡ shown_of graph.now node }
+{
+    match graph.label(node) {
+        Some(label) => Shown::Label(label),
+        None => Shown::Free(node),
+    }
+}
+
+/// Numbers of nodes that are equal exactly where the same is shown.
+fn numbers(alloc: Global, graph: &Graph) -> Result<Vec<usize>, NoMemory>
+    ensures { IfOk result (λ n. AreNumbers graph.now n.items) }
+{
+    let mut marks = IndexSet::new(alloc);
+    let mut numbers = Vec::new(alloc);
+    for node in 0..graph.len() {
+        let (number, _new) = marks.insert_full(shown_at(graph, node))?;
+        numbers.push(number)?;
+    }
+    Ok(numbers)
+}
+
+fn chained(alloc: Global, size: usize, numbers: &[usize]) -> Result<Chains, NoMemory>
+    requires { All (λ n. n < size) numbers.now }
+    ensures { IfOk result (λ c. c ≡ record { size = size; keys = numbers.now }) }
+{
+    let mut chains = Chains::new(alloc, size)?;
+    for number in numbers {
+        chains.push(*number)?;
+    }
+    Ok(chains)
+}
+
+/// Parts the nodes with a number from the others.
+fn split_by_number(chains: &Chains, number: usize, classes: &mut Classes) -> Result<(), NoMemory>
+    requires number_in { number < chains.now.size }
+    requires size { length chains.now.keys ≡ length classes.old.of }
+    requires free { AreFree classes.old }
+    ensures { OnOk result (IsSplitBy (λ u. slice_index_or chains.now.keys u 0 ≡ number) classes.old classes.new) }
+{
+    let mut count = chains.last(number);
+    while count > 0 {
+        classes.mark(count - 1)?;
+        count = chains.before(count - 1);
+    }
+    classes.split()?;
+    Ok(())
+}
+
+/// The classes of nodes at which the same is shown.
+pub fn classes_by_label(alloc: Global, graph: &Graph) -> Result<Classes, NoMemory>
+    ensures size { IfOk result (λ c. length c.of ≡ length graph.now) }
+    ensures free { IfOk result (λ c. AreFree c) }
+    ensures refining { IfOk result (λ c. IsRefining graph.now c.of 0) }
+{
+    let numbers = numbers(alloc, graph)?;
+    let chains = chained(alloc, graph.len(), &numbers)?;
+    let mut classes = Classes::new(alloc, graph.len())?;
+    for number in 0..graph.len() {
+        split_by_number(&chains, number, &mut classes)?;
+    }
+    Ok(classes)
+}
