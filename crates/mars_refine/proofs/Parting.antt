@@ -6,7 +6,8 @@ use Rattle.mars_tree.proofs.Pigeonhole.{pigeonhole, Twice}
 use Rattle.std.proofs.lemmas.List.Elements.{Contains-append_left, Contains-push, Contains-push_cases, All-weaker, All-push}
 use Rattle.mars_refine.specs.declared.classes.Span.{Span}
 use Rattle.mars_refine.specs.Refine.{class_of}
-use Rattle.mars_refine.specs.Classes.{Parted, IsSplit, is_marked, put_all, AreMembers}
+use Rattle.mars_refine.specs.Classes.{Parted, IsSplit, is_marked, AreMembers}
+use Rattle.mars_refine.specs.Writes.{put_all}
 use Rattle.mars_refine.specs.ClassesInside.{at_place, span_of, IsOrder, IsParted, AreTouched, SplitsOne, SplitsEach}
 
 -- what is read behind a write

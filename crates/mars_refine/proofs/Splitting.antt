@@ -1,9 +1,8 @@
 -- Classes that are split by marks.
-use Rattle.std.proofs.Common.{◌≡◌, ◌↔◌, ◌⊎◌, ℕ, zero, suc, ◌<◌, ◌≤◌, ◌+◌, ◌-◌, List, [], ◌∷◌, ◌++◌, Bool, true, false, length, get_or, set, take, replicate, slice_get, Some, refl, sym, subst, ap, ◌∙◌, arith, eq-eqb, ne_eqb, inl, inr, Contains, All, length-set}
-use Rattle.std.specs.List.{filter}
-use Rattle.std.specs.Prelude.{◌==◌, not}
+use Rattle.std.proofs.Common.{◌≡◌, ◌↔◌, ◌⊎◌, ℕ, zero, suc, ◌<◌, ◌≤◌, ◌+◌, ◌-◌, List, [], ◌∷◌, ◌++◌, Bool, true, false, length, get_or, set, drop, add-one, ◌≢◌, replicate, slice_get, Some, refl, sym, subst, ap, ◌∙◌, arith, eq-eqb, ne_eqb, inl, inr, Contains, All, length-set}
 use Rattle.std.proofs.lemmas.Bool.{cases_lt, cases_eq}
-use Rattle.std.proofs.lemmas.List.{take_more, get_or_default}
+use Rattle.std.proofs.lemmas.List.{get_or_default, length-drop, get_or-drop}
+use Rattle.std.proofs.Math.Seq.{drop-cons}
 use Rattle.std.proofs.lemmas.List.Elements.{Contains-append_left, Contains-push, Contains-push_cases}
 use Rattle.mars_tree.specs.Graph.{Node, IsGraph, kids_of}
 use Rattle.mars_refine.specs.declared.edges.Edge.{Edge}
@@ -12,7 +11,8 @@ use Rattle.mars_refine.specs.Classes.{Parted, IsSplit, IsSplitBy, AreFree, is_ma
 use Rattle.mars_refine.specs.Chains.{Keyed, IsLast}
 use Rattle.mars_refine.specs.Marks.{AreNumbers}
 use Rattle.std.proofs.lemmas.List.{length-replicate, get_or-replicate}
-use Rattle.mars_refine.specs.Edges.{edge_at, AreEdges, IsEdgeInto}
+use Rattle.mars_refine.specs.Edges.{edge_at, AreEdges, AreByPlace, IsEdgeInto, IsWidth}
+use Rattle.std.proofs.lemmas.Option.{slice_get_within}
 use Rattle.mars_refine.proofs.Parting.{set_cases, true_or_false}
 use Rattle.mars_refine.proofs.Refining.{split_start, split_more, same_shown}
 use Rattle.mars_tree.proofs.Paths.{kid_in}
@@ -26,16 +26,6 @@ marks_more marked marked' node n u node_in size e =
       | inl h ↦ (λ k. inl h.0, λ k. read ∙ h.1)
       | inr h ↦ (λ k. inr (sym h.1 ∙ sym read ∙ k), λ k. elim k [ inl same ↦ absurd (h.0 same) | inr mark ↦ read ∙ h.1 ∙ mark ])
     ]
-
-pub contains_take : (edges : List Edge) (i : ℕ) (x : Edge) → i < length edges → Contains (take (i + 1) edges) x ↔ (Contains (take i edges) x ⊎ (edge_at edges i ≡ x))
-contains_take edges i x h =
-    let e : take (i + 1) edges ≡ take i edges ++ edge_at edges i ∷ [] = take_more edges i (record { node = 0; place = 0 }) h in (
-      λ k. Contains-push_cases (take i edges) (edge_at edges i) x (subst (λ (xs : List Edge). Contains xs x) e k),
-      λ k. subst (λ (xs : List Edge). Contains xs x) (sym e) (elim k [
-        | inl a ↦ Contains-append_left (take i edges) (edge_at edges i ∷ []) x a
-        | inr a ↦ subst (λ (y : Edge). Contains (take i edges ++ edge_at edges i ∷ []) y) a (Contains-push (take i edges) (edge_at edges i))
-      ]),
-    )
 
 -- marks by a fact make a split by the fact
 pub split_by : (P : ℕ → Type 0) (start mid new : Parted) → mid.of ≡ start.of → mid.count ≡ start.count → ((u : ℕ) → u < length start.of → (is_marked mid.marked u ≡ true) ↔ P u) → IsSplit mid new → IsSplitBy P start new
@@ -87,105 +77,40 @@ edge_nodes g edges by_kid of class found is all k d h =
     let P : Edge → Type 0 = λ a. a.node < length g in
     subst P c.3.2 (is.each c.3.0 c.3.1).0
 
--- what holds while a class parts others
+-- the places of edges are below the number of kids
+pub edge_places : (g : List Node) (edges : List Edge) (by_kid : Keyed) (of : List ℕ) (class size : ℕ) (found read : List Edge) → AreEdges g edges by_kid (length g) 0 → IsWidth g size → ((e : Edge) → Contains found e ↔ IsEdgeInto edges by_kid.keys of class e) → read ≡ found → All (λ e. e.place < size) read
+edge_places g edges by_kid of class size found read is most all same = rw same (λ k d h.
+    let c = (all (get_or found k d)).0 (k, h, get_or_default found k (get_or found k d) d h) in
+    let e = is.each c.3.0 c.3.1 in
+    let within : (edge_at edges c.3.0).place < size = omega (arith, slice_get_within (kids_of g (edge_at edges c.3.0).node) (edge_at edges c.3.0).place (get_or by_kid.keys c.3.0 0) e.1, most (edge_at edges c.3.0).node e.0) in
+    let P : Edge → Type 0 = λ a. a.place < size in
+    subst P c.3.2 within)
+
+-- what holds while a class parts others, and the edges of `rest` are still to do
 pub record IsParting (g : List Node) (old now : Parted) (class : ℕ) (rest : List Edge) : Type 0 where
   pub size : length now.of ≡ length g
   pub more : old.count ≤ now.count
   pub free : AreFree now
   pub split : IsSplitTo g old.of now.of class old.count rest
-  pub nodes : All (λ e. e.node < length g) rest
-  pub whole : (place : ℕ) → IsWithout rest place ⊎ ((u : ℕ) → u < length g → Contains rest (record { node = u; place = place }) ↔ HasKidIn g old.of class place u)
 
-pub parting_start : (g : List Node) (old : Parted) (class : ℕ) (edges : List Edge) (by_kid : Keyed) (rest : List Edge) → IsGraph g → AreEdges g edges by_kid (length g) 0 → length old.of ≡ length g → AreFree old → IsRefining g old.of class →
-    ((e : Edge) → Contains rest e ↔ IsEdgeInto edges by_kid.keys old.of class e) → IsParting g old old class rest
-parting_start g old class edges by_kid rest graph is size free refining all =
-    let kid : (u place : ℕ) → u < length g → Contains rest (record { node = u; place = place }) ↔ HasKidIn g old.of class place u = λ u place u_in.
+-- the found edges are the kids in the class
+pub found_are_kids : (g : List Node) (edges : List Edge) (by_kid : Keyed) (of : List ℕ) (class : ℕ) (found : List Edge) → IsGraph g → AreEdges g edges by_kid (length g) 0 → length of ≡ length g →
+    ((e : Edge) → Contains found e ↔ IsEdgeInto edges by_kid.keys of class e) →
+    (u place : ℕ) → u < length g → Contains found (record { node = u; place = place }) ↔ HasKidIn g of class place u
+found_are_kids g edges by_kid of class found graph is size all u place u_in =
     let a = all (record { node = u; place = place }) in
-    let b = edges_are_kids g edges by_kid old.of class u place is size graph u_in in
-    (λ h. b.0 (a.0 h), λ h. a.1 (b.1 h)) in
-    record {
+    let b = edges_are_kids g edges by_kid of class u place is size graph u_in in
+    (λ h. b.0 (a.0 h), λ h. a.1 (b.1 h))
+
+pub parting_start : (g : List Node) (old : Parted) (class : ℕ) (edges : List Edge) (by_kid : Keyed) (found rest : List Edge) → IsGraph g → AreEdges g edges by_kid (length g) 0 → length old.of ≡ length g → AreFree old → IsRefining g old.of class →
+    ((e : Edge) → Contains found e ↔ IsEdgeInto edges by_kid.keys old.of class e) → rest ≡ found → IsParting g old old class rest
+parting_start g old class edges by_kid found rest graph is size free refining all same =
+    rw same (record {
       size = size;
       more = omega arith;
       free = free;
-      split = split_start g graph old.of class old.count rest refining.coarse (λ u place u_in h. (kid u place u_in).1 h);
-      nodes = edge_nodes g edges by_kid old.of class rest is all;
-      whole = λ place. inr (λ u u_in. kid u place u_in);
-    }
-
--- the edges at one place are taken away
-pub parting_more : (g : List Node) (old now new : Parted) (class here node : ℕ) (rest less : List Edge) → IsGraph g → length old.of ≡ length g → IsRefining g old.of class → IsParting g old now class rest →
-    Contains rest (record { node = node; place = here }) →
-    ((e : Edge) → Contains less e ↔ (Contains rest e × (e.place ≡ here → ⊥))) →
-    IsSplitBy (λ u. Contains rest (record { node = u; place = here })) now new → IsParting g old new class less
-parting_more g old now new class here node rest less graph size refining p some less_is s =
-    let kids : (u : ℕ) → u < length g → Contains rest (record { node = u; place = here }) ↔ HasKidIn g old.of class here u = elim (p.whole here) [
-      | inl none ↦ absurd (none node some)
-      | inr all ↦ all
-    ] in
-    let now_in : (u : ℕ) → u < length g → u < length now.of = λ u h. omega (arith, p.size) in
-    record {
-      size = s.size ∙ p.size;
-      more = omega (arith, s.more, p.more);
-      free = s.free;
-      split = split_more g graph old.of now.of new.of class old.count now.count here rest less refining.coarse p.split p.more (p.size ∙ sym size) s.moved
-          (λ place none. elim (cases_eq place here) [
-            | inl same ↦ inl same
-            | inr other ↦ inr (λ u h. none u ((less_is (record { node = u; place = place })).1 (h, other)))
-          ])
-          (λ u v u_in v_in.
-          let q = s.parts u v (now_in u u_in) (now_in v v_in) in
-          let a = kids u u_in in let b = kids v v_in in (
-            λ e. let r = q.0 e in (r.0, (λ h. b.0 (r.1.0 (a.1 h)), λ h. a.0 (r.1.1 (b.1 h)))),
-            λ k. q.1 (k.0, (λ h. b.1 (k.1.0 (a.0 h)), λ h. a.1 (k.1.1 (b.0 h)))),
-          ));
-      nodes = λ k d h.
-          let c = (less_is (get_or less k d)).0 (k, h, get_or_default less k (get_or less k d) d h) in
-          let P : Edge → Type 0 = λ a. a.node < length g in
-          subst P c.0.2 (subst P (get_or_default rest c.0.0 d (get_or less k d) c.0.1) (p.nodes c.0.0 d c.0.1));
-      whole = λ place. elim (cases_eq place here) [
-        | inl same ↦ inl (λ u h. ((less_is (record { node = u; place = place })).0 h).1 same)
-        | inr other ↦ elim (p.whole place) [
-          | inl none ↦ inl (λ u h. none u ((less_is (record { node = u; place = place })).0 h).0)
-          | inr all ↦ inr (λ u u_in. (λ h. (all u u_in).0 ((less_is (record { node = u; place = place })).0 h).0, λ h. (less_is (record { node = u; place = place })).1 ((all u u_in).1 h, other)))
-        ]
-      ];
-    }
-
--- an edge at the place, whose node is marked
-pub edge_marked : (edges : List Edge) (i place : ℕ) (marked marked' : List Bool) (n : ℕ) → i < length edges → (edge_at edges i).place ≡ place → (edge_at edges i).node < n → length marked' ≡ n → marked' ≡ set marked (edge_at edges i).node true →
-    ((u : ℕ) → u < n → (is_marked marked u ≡ true) ↔ Contains (take i edges) (record { node = u; place = place })) →
-    (u : ℕ) → u < n → (is_marked marked' u ≡ true) ↔ Contains (take (i + 1) edges) (record { node = u; place = place })
-edge_marked edges i place marked marked' n h at node_in size e before u u_in =
-    let m = marks_more marked marked' (edge_at edges i).node n u node_in size e in
-    let t = contains_take edges i (record { node = u; place = place }) h in (
-      λ k. t.1 (elim (m.0 k) [
-        | inl same ↦ inr (ap (λ p. record { node = (edge_at edges i).node; place = p }) at ∙ ap (λ v. record { node = v; place = place }) (sym same))
-        | inr mark ↦ inl ((before u u_in).0 mark)
-      ]),
-      λ k. m.1 (elim (t.0 k) [
-        | inl old ↦ inr ((before u u_in).1 old)
-        | inr here ↦ inl (sym (ap (λ (x : Edge). x.node) here))
-      ]),
-    )
-
--- an edge at another place
-pub edge_passed : (edges : List Edge) (i place : ℕ) (marked : List Bool) (n : ℕ) → i < length edges → ((edge_at edges i).place ≡ place → ⊥) →
-    ((u : ℕ) → u < n → (is_marked marked u ≡ true) ↔ Contains (take i edges) (record { node = u; place = place })) →
-    (u : ℕ) → u < n → (is_marked marked u ≡ true) ↔ Contains (take (i + 1) edges) (record { node = u; place = place })
-edge_passed edges i place marked n h other before u u_in =
-    let t = contains_take edges i (record { node = u; place = place }) h in (
-      λ k. t.1 (inl ((before u u_in).0 k)),
-      λ k. (before u u_in).1 (elim (t.0 k) [
-        | inl old ↦ old
-        | inr here ↦ absurd (other (ap (λ (x : Edge). x.place) here))
-      ]),
-    )
-
--- while edges are gone through
-pub record Kept (old now : Parted) (edges : List Edge) (i place : ℕ) : Type 0 where
-  pub of : now.of ≡ old.of
-  pub count : now.count ≡ old.count
-  pub marked : (u : ℕ) → u < length old.of → (is_marked now.marked u ≡ true) ↔ Contains (take i edges) (record { node = u; place = place })
+      split = split_start g graph old.of class old.count found refining.coarse (λ u place u_in h. (found_are_kids g edges by_kid old.of class found graph is size all u place u_in).1 h);
+    })
 
 in_cons_there : {X : Type 0} (x : X) (xs : List X) (e : X) → Contains (x ∷ xs) e → (x ≡ e) ⊎ Contains xs e
 in_cons_there x xs e (zero, within, at) = inl at
@@ -194,54 +119,133 @@ in_cons_there x xs e (suc k, within, at) = inr (k, omega arith, at)
 in_cons : {X : Type 0} (x : X) (xs : List X) (e : X) → Contains (x ∷ xs) e ↔ ((x ≡ e) ⊎ Contains xs e)
 in_cons x xs e = (in_cons_there x xs e, λ h. elim h [ inl same ↦ (zero, omega arith, same) | inr rest ↦ (suc rest.0, omega (arith, rest.1), rest.2) ])
 
--- the edges at other places
-pub contains_filter : (edges : List Edge) (here : ℕ) (e : Edge) → Contains (filter (λ x. not (x.place == here)) edges) e ↔ (Contains edges e × (e.place ≡ here → ⊥))
-contains_filter [] here e = (λ h. absurd (omega (arith, h.1)), λ h. absurd (omega (arith, h.0.1)))
-contains_filter (x ∷ xs) here e =
-    let more = contains_filter xs here e in
-    let c = in_cons x xs e in
-    elim (cases_eq x.place here) [
-      | inl same ↦
-          let t : not (x.place == here) ≡ false = ap not (eq-eqb x.place here same) in
-          rw t (λ h. let a = more.0 h in (c.1 (inr a.0), a.1), λ h. elim (c.0 h.0) [ inl at ↦ absurd (h.1 (sym (ap (λ (y : Edge). y.place) at) ∙ same)) | inr rest ↦ more.1 (rest, h.1) ])
-      | inr other ↦
-          let t : not (x.place == here) ≡ true = ap not (ne_eqb x.place here other) in
-          let d = in_cons x (filter (λ y. not (y.place == here)) xs) e in
-          rw t (
-            λ h. elim (d.0 h) [ inl at ↦ (c.1 (inl at), λ same. other (ap (λ (y : Edge). y.place) at ∙ same)) | inr rest ↦ let a = more.0 rest in (c.1 (inr a.0), a.1) ],
-            λ h. d.1 (elim (c.0 h.0) [ inl at ↦ inl at | inr rest ↦ inr (more.1 (rest, h.1)) ]),
-          )
-    ]
+-- the first of the edges still to do, and the others
+in_drop : (found : List Edge) (i : ℕ) (e : Edge) → i < length found → Contains (drop i found) e → (edge_at found i ≡ e) ⊎ Contains (drop (i + 1) found) e
+in_drop found i e within there =
+    let cut : drop i found ≡ edge_at found i ∷ drop (i + 1) found = rw add-one (drop-cons found i (record { node = 0; place = 0 }) within) in
+    in_cons_there (edge_at found i) (drop (i + 1) found) e (subst (λ (xs : List Edge). Contains xs e) cut there)
 
-fewer_or_same : (edges : List Edge) (here : ℕ) → length (filter (λ x. not (x.place == here)) edges) ≤ length edges
-fewer_or_same [] here = omega arith
-fewer_or_same (x ∷ xs) here = elim (cases_eq x.place here) [
-  | inl same ↦ let t : not (x.place == here) ≡ false = ap not (eq-eqb x.place here same) in rw t (omega (arith, fewer_or_same xs here))
-  | inr other ↦ let t : not (x.place == here) ≡ true = ap not (ne_eqb x.place here other) in rw t (omega (arith, fewer_or_same xs here))
-]
+-- the edges at a place are done with the last of them
+pub parting_more : (g : List Node) (old now new : Parted) (class here i : ℕ) (found : List Edge) → IsGraph g → length old.of ≡ length g → IsRefining g old.of class → IsParting g old now class (drop i found) →
+    i < length found → here ≡ (edge_at found i).place →
+    ((u place : ℕ) → u < length g → Contains found (record { node = u; place = place }) ↔ HasKidIn g old.of class place u) →
+    IsSplitBy (λ u. Contains found (record { node = u; place = here })) now new → IsParting g old new class (drop (i + 1) found)
+parting_more g old now new class here i found graph size refining p within at kids s =
+    let now_in : (u : ℕ) → u < length g → u < length now.of = λ u h. omega (arith, p.size) in
+    record {
+      size = s.size ∙ p.size;
+      more = omega (arith, s.more, p.more);
+      free = s.free;
+      split = split_more g graph old.of now.of new.of class old.count now.count here (drop i found) (drop (i + 1) found) refining.coarse p.split p.more (p.size ∙ sym size) s.moved
+          (λ place none. elim (cases_eq place here) [
+            | inl same ↦ inl same
+            | inr other ↦ inr (λ u h. elim (in_drop found i (record { node = u; place = place }) within h) [
+              | inl first ↦ other (sym (at ∙ ap (λ (e : Edge). e.place) first))
+              | inr more ↦ none u more
+            ])
+          ])
+          (λ u v u_in v_in.
+          let q = s.parts u v (now_in u u_in) (now_in v v_in) in
+          let a = kids u here u_in in let b = kids v here v_in in (
+            λ e. let r = q.0 e in (r.0, (λ h. b.0 (r.1.0 (a.1 h)), λ h. a.0 (r.1.1 (b.1 h)))),
+            λ k. q.1 (k.0, (λ h. b.1 (k.1.0 (a.0 h)), λ h. a.1 (k.1.1 (b.0 h)))),
+          ));
+    }
 
-pub fewer : (edges : List Edge) (here i : ℕ) → i < length edges → (edge_at edges i).place ≡ here → length (filter (λ x. not (x.place == here)) edges) < length edges
-fewer [] here i h at = absurd (omega arith)
-fewer (x ∷ xs) here zero h at =
-    let t : not (x.place == here) ≡ false = ap not (eq-eqb x.place here at) in
-    rw t (omega (arith, fewer_or_same xs here))
-fewer (x ∷ xs) here (suc i) h at =
-    let more = fewer xs here i (omega arith) at in
-    elim (cases_eq x.place here) [
-      | inl same ↦ let t : not (x.place == here) ≡ false = ap not (eq-eqb x.place here same) in rw t (omega (arith, more))
-      | inr other ↦ let t : not (x.place == here) ≡ true = ap not (ne_eqb x.place here other) in rw t (omega (arith, more))
-    ]
+-- an edge whose place comes again is passed
+pub parting_passed : (g : List Node) (old now : Parted) (class here i last : ℕ) (found : List Edge) (keys : List ℕ) → IsParting g old now class (drop i found) →
+    i < length found → here ≡ (edge_at found i).place → AreByPlace found keys → IsLast keys here (length keys) last → last ≢ i + 1 → IsParting g old now class (drop (i + 1) found)
+parting_passed g old now class here i last found keys p within at beside is later =
+    let here_is : get_or keys i 0 ≡ here = beside.each i within ∙ sym at in
+    let behind : i + 1 < last = elim (cases_lt i last) [
+      | inl lt ↦ omega arith
+      | inr le ↦ absurd (is.none_behind i le (omega (arith, beside.beside)) here_is)
+    ] in
+    let last_in : last - 1 < length found = omega (arith, is.within, beside.beside) in
+    let edge : Edge = edge_at found (last - 1) in
+    let edge_place : edge.place ≡ here = sym (beside.each (last - 1) last_in) ∙ is.here (omega arith) in
+    let k : ℕ = last - 1 - (i + 1) in
+    let k_is : i + 1 + k ≡ last - 1 = omega arith in
+    let there : Contains (drop (i + 1) found) edge = (
+      k,
+      omega (arith, length-drop (i + 1) found),
+      get_or-drop (i + 1) found k edge ∙ ap (λ j. get_or found j edge) k_is ∙ get_or_default found (last - 1) edge (record { node = 0; place = 0 }) last_in,
+    ) in
+    record {
+      size = p.size;
+      more = p.more;
+      free = p.free;
+      split = record {
+        moved = p.split.moved;
+        refines = p.split.refines;
+        coarse = p.split.coarse;
+        split = λ u v place u_in v_in e none. p.split.split u v place u_in v_in e (λ node h. elim (in_drop found i (record { node = node; place = place }) within h) [
+          | inl first ↦
+              let same : edge.place ≡ place = edge_place ∙ at ∙ ap (λ (x : Edge). x.place) first in
+              none edge.node (subst (λ (q : ℕ). Contains (drop (i + 1) found) (record { node = edge.node; place = q })) same there)
+          | inr more ↦ none node more
+        ]);
+      };
+    }
 
--- at a removal, by what is read
-pub parting_next : (g : List Node) (old now new : Parted) (class here : ℕ) (first : Edge) (rest read less : List Edge) → IsGraph g → length old.of ≡ length g → IsRefining g old.of class → IsParting g old now class rest →
-    0 < length rest → first ≡ get_or rest 0 first → first.place ≡ here → read ≡ rest → less ≡ filter (λ x. not (x.place == here)) rest →
-    IsSplitBy (λ u. Contains read (record { node = u; place = here })) now new → IsParting g old new class less
-parting_next g old now new class here first rest read less graph size refining p some first_is here_is read_is less_is s =
-    let there : Contains rest (record { node = first.node; place = here }) = subst (λ (k : ℕ). Contains rest (record { node = first.node; place = k })) here_is (zero, some, sym first_is) in
-    let L : List Edge → Type 0 = λ l. (e : Edge) → Contains l e ↔ (Contains rest e × (e.place ≡ here → ⊥)) in
-    let S : List Edge → Type 0 = λ r. IsSplitBy (λ u. Contains r (record { node = u; place = here })) now new in
-    parting_more g old now new class here first.node rest less graph size refining p there
-    (subst L (sym less_is) (contains_filter rest here)) (subst S read_is s)
+-- while the edges at a place are gone through, from the last
+pub record IsMarkedAt (edges : List Edge) (keys : List ℕ) (place count : ℕ) (old now : Parted) : Type 0 where
+  pub of : now.of ≡ old.of
+  pub count_is : now.count ≡ old.count
+  pub within : count ≤ length keys
+  pub here : 0 < count → get_or keys (count - 1) 0 ≡ place
+  pub marked : (u : ℕ) → u < length old.of → (is_marked now.marked u ≡ true) ↔ ((i : ℕ) × (count ≤ i) × (i < length edges) × (edge_at edges i ≡ record { node = u; place = place }))
+
+pub marked_at_start : (edges : List Edge) (keys : List ℕ) (place count : ℕ) (old : Parted) → AreByPlace edges keys → AreFree old → IsLast keys place (length keys) count → IsMarkedAt edges keys place count old old
+marked_at_start edges keys place count old beside free last = record {
+  of = refl;
+  count_is = refl;
+  within = last.within;
+  here = last.here;
+  marked = λ u h. (
+    λ m. absurd (let e : true ≡ false = sym m ∙ free u h in cc),
+    λ k. absurd (last.none_behind k.0 k.1 (omega (arith, k.2, beside.beside)) (beside.each k.0 k.2 ∙ ap (λ (e : Edge). e.place) k.3)),
+  );
+}
+
+pub marked_at_next : (edges : List Edge) (keys : List ℕ) (place count count' key node : ℕ) (old now new : Parted) → AreByPlace edges keys → 0 < count → IsMarkedAt edges keys place count old now → node < length old.of → node ≡ (edge_at edges (count - 1)).node →
+    new.of ≡ now.of → new.count ≡ now.count → length new.marked ≡ length new.of → new.marked ≡ set now.marked node true →
+    key ≡ get_or keys (count - 1) 0 → IsLast keys key (count - 1) count' → IsMarkedAt edges keys place count' old new
+marked_at_next edges keys place count count' key node old now new beside some is node_in node_is of_is count_is sized marked_is key_is last =
+    let key_place : key ≡ place = key_is ∙ is.here some in
+    let entry_in : count - 1 < length edges = omega (arith, is.within, beside.beside) in
+    let edge_is : edge_at edges (count - 1) ≡ record { node = node; place = place } =
+    ap (λ n. record { node = n; place = (edge_at edges (count - 1)).place }) (sym node_is) ∙ ap (λ p. record { node = node; place = p }) (sym (beside.each (count - 1) entry_in) ∙ is.here some) in
+    record {
+      of = of_is ∙ is.of;
+      count_is = count_is ∙ is.count_is;
+      within = omega (arith, last.within, is.within);
+      here = λ more. last.here more ∙ key_place;
+      marked = λ u u_in.
+          let m = marks_more now.marked new.marked node (length old.of) u node_in (sized ∙ ap length (of_is ∙ is.of)) marked_is in
+          let old_mark = is.marked u u_in in (
+            λ h. elim (m.0 h) [
+              | inl same ↦ (count - 1, last.within, entry_in, edge_is ∙ ap (λ n. record { node = n; place = place }) (sym same))
+              | inr mark ↦ let a = old_mark.0 mark in (a.0, omega (arith, a.1, last.within), a.2, a.3)
+            ],
+            λ k. m.1 (elim (cases_lt k.0 count) [
+              | inl lt ↦ elim (cases_eq k.0 (count - 1)) [
+                | inl same ↦ inl (sym (ap (λ (e : Edge). e.node) (sym edge_is ∙ ap (edge_at edges) (sym same) ∙ k.3)))
+                | inr other ↦ absurd (last.none_behind k.0 k.1 (omega arith) (beside.each k.0 k.2 ∙ ap (λ (e : Edge). e.place) k.3 ∙ sym key_place))
+              ]
+              | inr le ↦ inr (old_mark.1 (k.0, le, k.2, k.3))
+            ]),
+          );
+    }
+
+-- at the first entry all are marked
+pub marked_at_end : (edges : List Edge) (keys : List ℕ) (place count : ℕ) (old now : Parted) → IsMarkedAt edges keys place count old now → count ≤ 0 →
+    (u : ℕ) → u < length old.of → (is_marked now.marked u ≡ true) ↔ Contains edges (record { node = u; place = place })
+marked_at_end edges keys place count old now is none u u_in =
+    let m = is.marked u u_in in (
+      λ h. let a = m.0 h in (a.0, a.2, get_or_default edges a.0 (record { node = u; place = place }) (record { node = 0; place = 0 }) a.2 ∙ a.3),
+      λ k. m.1 (k.0, omega arith, k.1, get_or_default edges k.0 (record { node = 0; place = 0 }) (record { node = u; place = place }) k.1 ∙ k.2),
+    )
 
 -- nodes parted by their numbers below `k`
 pub record IsByNumbers (numbers : List ℕ) (n k : ℕ) (p : Parted) : Type 0 where

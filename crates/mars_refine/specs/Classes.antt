@@ -1,4 +1,5 @@
-use Rattle.std.specs.Prelude.{◌≡◌, ◌↔◌, ℕ, ◌<◌, ◌≤◌, List, [], ◌∷◌, Bool, false, length, slice_index_or, slice_set, Contains}
+-- The classes of nodes, and how marks part them.
+use Rattle.std.specs.Prelude.{◌≡◌, ◌↔◌, ℕ, ◌<◌, ◌≤◌, List, Bool, false, length, slice_index_or, Contains}
 use Rattle.mars_refine.specs.Refine.{class_of, Moved}
 
 -- the class of each node, how many classes there are, and which nodes are marked
@@ -9,11 +10,6 @@ pub record Parted : Type 0 where
 
 abbrev pub is_marked : List Bool → ℕ → Bool
 is_marked marked u = slice_index_or marked u false
-
--- the list with a value at each of the places
-abbrev pub put_all : {X : Type 0} → List X → List ℕ → X → List X
-put_all xs [] value = xs
-put_all xs (place ∷ places) value = put_all (slice_set xs place value) places value
 
 -- each class is parted into its marked nodes and the others, and no node is marked
 pub record IsSplit (old new : Parted) : Type 0 where

@@ -4,3 +4,4 @@ pub mod ClassesInside
 pub mod Edges
 pub mod Marks
 pub mod Refine
+pub mod Writes

@@ -2,6 +2,7 @@
 ghost use Rattle.std.specs.Prelude.{◌≡◌, ◌<◌, ◌≤◌, ◌++◌, ◌∷◌, [], ℕ, length, slice_index_or, IfOk, OnOk};
 ghost use Rattle.mars_refine.specs.Chains.{Keyed, IsLast};
 
+use crate::writes::write_all;
 use mars_base::NoMemory;
 use std::alloc::Global;
 use std::marker::Model;
@@ -47,6 +48,15 @@ impl Chains {
         self.befores.push_reserved(self.lasts[key]);
         self.lasts[key] = self.keys.len();
         Ok(())
+    }
+
+    /// Takes all entries away, in time linear in them.
+    pub fn clear(&mut self)
+        ensures { self.new ≡ record { size = self.old.size; keys = [] } }
+    {
+        write_all(&mut self.lasts, &self.keys, 0);
+        self.keys.clear();
+        self.befores.clear();
     }
 
     /// How many entries there are up to the last with the key.

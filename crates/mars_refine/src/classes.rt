@@ -1,9 +1,10 @@
 //! A partition of nodes into classes that are split, the smaller part under a new number.
 ghost use Rattle.std.specs.Prelude.{◌≡◌, ◌⊎◌, ◌<◌, ◌≤◌, ◌+◌, [], ℕ, true, false, length, slice_set, IfOk, OnOk, OnErr, All, replicate, slice_range};
-ghost use Rattle.mars_refine.specs.Classes.{Parted, AreMembers, IsSplit, put_all};
+ghost use Rattle.mars_refine.specs.Classes.{Parted, AreMembers, IsSplit};
 ghost use Rattle.mars_refine.specs.ClassesInside.{IsPartedInside, AreTouched, parted_of, SplitsOne, span_of};
 ghost use Rattle.mars_refine.specs.Refine.{class_of};
 
+use crate::writes::write_all;
 use mars_base::NoMemory;
 use std::alloc::Global;
 use std::marker::Model;
@@ -168,16 +169,6 @@ fn move_front(parts: &mut Parts, node: usize)
     parts.place[node] = middle;
     parts.spans[class].middle = middle + 1;
     parts.marked[node] = true;
-}
-
-/// Writes a value at each of the places.
-fn write_all<T: Copy + Drop>(values: &mut Vec<T>, places: &[usize], value: T)
-    requires { All (λ p. p < length values.old.items) places.now }
-    ensures { values.new.items ≡ put_all values.old.items places.now value }
-{
-    for place in places {
-        values[*place] = value;
-    }
 }
 
 /// The two in the order of their lengths.

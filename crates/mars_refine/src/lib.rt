@@ -4,8 +4,10 @@
 mod chains;
 mod classes;
 mod edges;
+mod found;
 mod marks;
 mod refine;
+mod writes;
 
 pub use classes::Classes;
 pub use refine::classes_by_tree;

@@ -1,70 +1,56 @@
 //! Classes of nodes that are the same tree.
-ghost use Rattle.std.specs.Prelude.{◌≡◌, ◌<◌, ◌≤◌, ◌+◌, ℕ, List, length, IfOk, OnOk, All, Contains, ◌==◌, not};
-ghost use Rattle.std.specs.List.{filter};
+ghost use Rattle.std.specs.Prelude.{◌≡◌, ◌<◌, ◌≤◌, ◌+◌, ℕ, List, length, IfOk, OnOk, All, Contains};
 ghost use Rattle.mars_tree.specs.Graph.{Node, IsGraph};
 ghost use Rattle.mars_refine.specs.Classes.{Parted, AreFree, IsSplitBy};
-ghost use Rattle.mars_refine.specs.Edges.{AreEdges};
+ghost use Rattle.mars_refine.specs.Edges.{AreEdges, AreByPlace, IsWidth};
 ghost use Rattle.mars_refine.specs.Refine.{AreTrees, IsRefining, IsSplitTo};
 ghost use Rattle.mars_refine.specs.declared.edges.Edge.{Edge};
 
 use crate::classes::Classes;
 use crate::edges::{Edge, Edges};
+use crate::found::{Found, find_edges, width};
 use crate::marks::classes_by_label;
 use mars_base::NoMemory;
 use mars_tree::Graph;
 use std::alloc::Global;
 
-/// Parts the nodes that have an edge at the place from those that have none.
-fn split_by_place(edges: &[Edge], place: usize, classes: &mut Classes) -> Result<(), NoMemory>
-    requires nodes { All (λ e. e.node < length classes.old.of) edges.now }
+/// Parts the nodes that have a found edge at the place from those that have none.
+fn split_by_place(found: &Found, place: usize, classes: &mut Classes) -> Result<(), NoMemory>
+    requires place_in { place < found.now.by_place.size }
+    requires beside { AreByPlace found.now.edges.items found.now.by_place.keys }
+    requires nodes { All (λ e. e.node < length classes.old.of) found.now.edges.items }
     requires free { AreFree classes.old }
-    ensures { OnOk result (IsSplitBy (λ u. Contains edges.now (record { node = u; place = place })) classes.old classes.new) }
+    ensures { OnOk result (IsSplitBy (λ u. Contains found.now.edges.items (record { node = u; place = place })) classes.old classes.new) }
 {
-    for edge in edges {
-        if edge.place == place {
-            classes.mark(edge.node)?;
-        }
+    let mut count = found.by_place.last(place);
+    while count > 0 {
+        classes.mark(found.edges[count - 1].node)?;
+        count = found.by_place.before(count - 1);
     }
     classes.split()?;
     Ok(())
 }
 
-/// The edges at other places.
-fn elsewhere(alloc: Global, edges: &[Edge], place: usize) -> Result<Vec<Edge>, NoMemory>
-    ensures { IfOk result (λ v. v.items ≡ filter (λ e. not (e.place == place)) edges.now) }
-{
-    Ok(
-        edges
-            .iter()
-            .copied()
-            .filter(|edge| edge.place != place)
-            .collect(alloc)?,
-    )
-}
-
-/// Parts nodes of which one has a kid in the class where the other has none.
-fn split_by_class(
-    alloc: Global,
-    graph: &Graph,
-    edges: &Edges,
-    class: usize,
-    classes: &mut Classes,
-) -> Result<(), NoMemory>
+/// Parts nodes of which one has a kid in the class where the other has none, at each place of kids that is found, once.
+fn split_by_class(graph: &Graph, edges: &Edges, class: usize, found: &mut Found, classes: &mut Classes) -> Result<(), NoMemory>
     requires graph { IsGraph graph.now }
     requires edges { AreEdges graph.now edges.now.edges.items edges.now.by_kid (length graph.now) 0 }
     requires class_in { class < classes.old.count }
     requires size { length classes.old.of ≡ length graph.now }
     requires free { AreFree classes.old }
     requires refining { IsRefining graph.now classes.old.of class }
+    requires places { IsWidth graph.now found.old.by_place.size }
     ensures size { OnOk result (length classes.new.of ≡ length graph.now) }
     ensures free { OnOk result (AreFree classes.new) }
     ensures refining { OnOk result (IsRefining graph.now classes.new.of (class + 1)) }
+    ensures places { OnOk result (found.new.by_place.size ≡ found.old.by_place.size) }
 {
-    let mut rest = edges.into_class(alloc, classes, class)?;
-    'places: while rest.len() > 0 {
-        let place = rest[0].place;
-        split_by_place(&rest, place, classes)?;
-        rest = elsewhere(alloc, &rest, place)?;
+    find_edges(graph, edges, class, classes, found)?;
+    for entry in 0..found.edges.len() {
+        let place = found.edges[entry].place;
+        if found.by_place.last(place) == entry + 1 {
+            split_by_place(found, place, classes)?;
+        }
     }
     Ok(())
 }
@@ -76,10 +62,11 @@ pub fn classes_by_tree(alloc: Global, graph: &Graph) -> Result<Classes, NoMemory
 {
     let _nodes = graph.len();
     let edges = Edges::new(alloc, graph)?;
+    let mut found = Found::new(alloc, width(graph))?;
     let mut classes = classes_by_label(alloc, graph)?;
     let mut next = 0;
     while next < classes.count() {
-        split_by_class(alloc, graph, &edges, next, &mut classes)?;
+        split_by_class(graph, &edges, next, &mut found, &mut classes)?;
         next += 1;
     }
     Ok(classes)
