@@ -6,7 +6,7 @@ use Rattle.std.proofs.lemmas.Option.{same_Some}
 use Rattle.mars_tree.specs.Graph.{Node, IsGraph, label_of, kids_of, shown_at, end_of, at, Same}
 use Rattle.mars_tree.proofs.Paths.{kids_from_label, label_from_stands, kid_in}
 use Rattle.mars_tree.proofs.Walks.{IsBisimulation, same_from_bisimulation}
-use Rattle.mars_refine.specs.declared.edges.Edge.{Edge}
+use Rattle.mars_refine.specs.declared.edge.Edge.{Edge}
 use Rattle.mars_refine.specs.Refine.{IsWithout, class_of, Waits, IsRefining, HasKidIn, Moved, IsSplitTo, AreTrees}
 
 pub same_refl : (g : List Node) (u : ℕ) → Same g u g u

@@ -1,14 +1,13 @@
 -- Classes that are split by marks.
-use Rattle.std.proofs.Common.{◌≡◌, ◌↔◌, ◌⊎◌, ℕ, zero, suc, ◌<◌, ◌≤◌, ◌+◌, ◌-◌, List, [], ◌∷◌, ◌++◌, Bool, true, false, length, get_or, set, drop, add-one, ◌≢◌, replicate, slice_get, Some, refl, sym, subst, ap, ◌∙◌, arith, eq-eqb, ne_eqb, inl, inr, Contains, All, length-set}
+use Rattle.std.proofs.Common.{◌≡◌, ◌↔◌, ◌⊎◌, ℕ, zero, suc, ◌<◌, ◌≤◌, ◌+◌, ◌-◌, List, ◌∷◌, Bool, true, false, length, get_or, set, drop, add-one, ◌≢◌, replicate, refl, sym, subst, ap, ◌∙◌, arith, inl, inr, Contains, All, length-set}
 use Rattle.std.proofs.lemmas.Bool.{cases_lt, cases_eq}
 use Rattle.std.proofs.lemmas.List.{get_or_default, length-drop, get_or-drop}
 use Rattle.std.proofs.Math.Seq.{drop-cons}
-use Rattle.std.proofs.lemmas.List.Elements.{Contains-append_left, Contains-push, Contains-push_cases}
 use Rattle.mars_tree.specs.Graph.{Node, IsGraph, kids_of}
-use Rattle.mars_refine.specs.declared.edges.Edge.{Edge}
-use Rattle.mars_refine.specs.Refine.{class_of, HasKidIn, IsSplitTo, IsWithout, IsRefining}
+use Rattle.mars_refine.specs.declared.edge.Edge.{Edge}
+use Rattle.mars_refine.specs.Refine.{class_of, HasKidIn, IsSplitTo, IsRefining}
 use Rattle.mars_refine.specs.Classes.{Parted, IsSplit, IsSplitBy, AreFree, is_marked}
-use Rattle.mars_refine.specs.Chains.{Keyed, IsLast}
+use Rattle.mars_refine.specs.Chains.{IsLast}
 use Rattle.mars_refine.specs.Marks.{AreNumbers}
 use Rattle.std.proofs.lemmas.List.{length-replicate, get_or-replicate}
 use Rattle.mars_refine.specs.Edges.{edge_at, AreEdges, AreByPlace, IsEdgeInto, IsWidth}
@@ -59,32 +58,32 @@ split_by P start mid new of_is count_is marks s =
     }
 
 -- the edges into a class are the kids in the class
-pub edges_are_kids : (g : List Node) (edges : List Edge) (by_kid : Keyed) (of : List ℕ) (class u place : ℕ) → AreEdges g edges by_kid (length g) 0 → length of ≡ length g → IsGraph g → u < length g →
-    IsEdgeInto edges by_kid.keys of class (record { node = u; place = place }) ↔ HasKidIn g of class place u
-edges_are_kids g edges by_kid of class u place is size graph u_in = (
-  λ (x, x_in, c, (i, i_in, at, k)).
-      let e = is.each i i_in in
-      let P : Edge → Type 0 = λ a. slice_get (kids_of g a.node) a.place ≡ Some (get_or by_kid.keys i 0) in
-      (x, subst P at e.1 ∙ ap (λ y. Some y) k, c),
+pub edges_are_kids : (g : List Node) (edges : List Edge) (starts of : List ℕ) (class u place : ℕ) → AreEdges g edges starts → length of ≡ length g → IsGraph g → u < length g →
+    IsEdgeInto edges starts of class (record { node = u; place = place }) ↔ HasKidIn g of class place u
+edges_are_kids g edges starts of class u place is size graph u_in = (
+  λ (x, x_in, c, to). (x, (is.each x (record { node = u; place = place }) (omega (arith, size)) to).1, c),
   λ (x, here, c).
       let x_in : x < length g = kid_in g u place x graph u_in here in
-      (x, omega (arith, size), c, is.all u place x (inl u_in) here),
+      (x, omega (arith, size), c, is.all u place x u_in x_in here),
 )
 
-pub edge_nodes : (g : List Node) (edges : List Edge) (by_kid : Keyed) (of : List ℕ) (class : ℕ) (found : List Edge) → AreEdges g edges by_kid (length g) 0 → ((e : Edge) → Contains found e ↔ IsEdgeInto edges by_kid.keys of class e) → All (λ e. e.node < length g) found
-edge_nodes g edges by_kid of class found is all k d h =
-    let c = (all (get_or found k d)).0 (k, h, get_or_default found k (get_or found k d) d h) in
-    let P : Edge → Type 0 = λ a. a.node < length g in
-    subst P c.3.2 (is.each c.3.0 c.3.1).0
+-- a found edge is one of the graph
+found_is_edge : (g : List Node) (edges : List Edge) (starts of : List ℕ) (class : ℕ) (found : List Edge) → AreEdges g edges starts → length of ≡ length g → ((e : Edge) → Contains found e ↔ IsEdgeInto edges starts of class e) →
+    (e : Edge) → Contains found e → (e.node < length g) × (e.place < length (kids_of g e.node))
+found_is_edge g edges starts of class found is size all e h =
+    let (x, x_in, c, to) = (all e).0 h in
+    let a = is.each x e (omega (arith, size)) to in
+    (a.0, slice_get_within (kids_of g e.node) e.place x a.1)
+
+pub edge_nodes : (g : List Node) (edges : List Edge) (starts of : List ℕ) (class : ℕ) (found : List Edge) → AreEdges g edges starts → length of ≡ length g → ((e : Edge) → Contains found e ↔ IsEdgeInto edges starts of class e) → All (λ e. e.node < length g) found
+edge_nodes g edges starts of class found is size all k d h =
+    (found_is_edge g edges starts of class found is size all (get_or found k d) (k, h, get_or_default found k (get_or found k d) d h)).0
 
 -- the places of edges are below the number of kids
-pub edge_places : (g : List Node) (edges : List Edge) (by_kid : Keyed) (of : List ℕ) (class size : ℕ) (found read : List Edge) → AreEdges g edges by_kid (length g) 0 → IsWidth g size → ((e : Edge) → Contains found e ↔ IsEdgeInto edges by_kid.keys of class e) → read ≡ found → All (λ e. e.place < size) read
-edge_places g edges by_kid of class size found read is most all same = rw same (λ k d h.
-    let c = (all (get_or found k d)).0 (k, h, get_or_default found k (get_or found k d) d h) in
-    let e = is.each c.3.0 c.3.1 in
-    let within : (edge_at edges c.3.0).place < size = omega (arith, slice_get_within (kids_of g (edge_at edges c.3.0).node) (edge_at edges c.3.0).place (get_or by_kid.keys c.3.0 0) e.1, most (edge_at edges c.3.0).node e.0) in
-    let P : Edge → Type 0 = λ a. a.place < size in
-    subst P c.3.2 within)
+pub edge_places : (g : List Node) (edges : List Edge) (starts of : List ℕ) (class size : ℕ) (found read : List Edge) → AreEdges g edges starts → length of ≡ length g → IsWidth g size → ((e : Edge) → Contains found e ↔ IsEdgeInto edges starts of class e) → read ≡ found → All (λ e. e.place < size) read
+edge_places g edges starts of class size found read is len most all same = rw same (λ k d h.
+    let a = found_is_edge g edges starts of class found is len all (get_or found k d) (k, h, get_or_default found k (get_or found k d) d h) in
+    omega (arith, a.1, most (get_or found k d).node a.0))
 
 -- what holds while a class parts others, and the edges of `rest` are still to do
 pub record IsParting (g : List Node) (old now : Parted) (class : ℕ) (rest : List Edge) : Type 0 where
@@ -94,22 +93,22 @@ pub record IsParting (g : List Node) (old now : Parted) (class : ℕ) (rest : Li
   pub split : IsSplitTo g old.of now.of class old.count rest
 
 -- the found edges are the kids in the class
-pub found_are_kids : (g : List Node) (edges : List Edge) (by_kid : Keyed) (of : List ℕ) (class : ℕ) (found : List Edge) → IsGraph g → AreEdges g edges by_kid (length g) 0 → length of ≡ length g →
-    ((e : Edge) → Contains found e ↔ IsEdgeInto edges by_kid.keys of class e) →
+pub found_are_kids : (g : List Node) (edges : List Edge) (starts of : List ℕ) (class : ℕ) (found : List Edge) → IsGraph g → AreEdges g edges starts → length of ≡ length g →
+    ((e : Edge) → Contains found e ↔ IsEdgeInto edges starts of class e) →
     (u place : ℕ) → u < length g → Contains found (record { node = u; place = place }) ↔ HasKidIn g of class place u
-found_are_kids g edges by_kid of class found graph is size all u place u_in =
+found_are_kids g edges starts of class found graph is size all u place u_in =
     let a = all (record { node = u; place = place }) in
-    let b = edges_are_kids g edges by_kid of class u place is size graph u_in in
+    let b = edges_are_kids g edges starts of class u place is size graph u_in in
     (λ h. b.0 (a.0 h), λ h. a.1 (b.1 h))
 
-pub parting_start : (g : List Node) (old : Parted) (class : ℕ) (edges : List Edge) (by_kid : Keyed) (found rest : List Edge) → IsGraph g → AreEdges g edges by_kid (length g) 0 → length old.of ≡ length g → AreFree old → IsRefining g old.of class →
-    ((e : Edge) → Contains found e ↔ IsEdgeInto edges by_kid.keys old.of class e) → rest ≡ found → IsParting g old old class rest
-parting_start g old class edges by_kid found rest graph is size free refining all same =
+pub parting_start : (g : List Node) (old : Parted) (class : ℕ) (edges : List Edge) (starts : List ℕ) (found rest : List Edge) → IsGraph g → AreEdges g edges starts → length old.of ≡ length g → AreFree old → IsRefining g old.of class →
+    ((e : Edge) → Contains found e ↔ IsEdgeInto edges starts old.of class e) → rest ≡ found → IsParting g old old class rest
+parting_start g old class edges starts found rest graph is size free refining all same =
     rw same (record {
       size = size;
       more = omega arith;
       free = free;
-      split = split_start g graph old.of class old.count found refining.coarse (λ u place u_in h. (found_are_kids g edges by_kid old.of class found graph is size all u place u_in).1 h);
+      split = split_start g graph old.of class old.count found refining.coarse (λ u place u_in h. (found_are_kids g edges starts old.of class found graph is size all u place u_in).1 h);
     })
 
 in_cons_there : {X : Type 0} (x : X) (xs : List X) (e : X) → Contains (x ∷ xs) e → (x ≡ e) ⊎ Contains xs e

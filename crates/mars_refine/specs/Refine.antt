@@ -1,5 +1,5 @@
 use Rattle.std.specs.Prelude.{◌≡◌, ◌↔◌, ◌⊎◌, ℕ, ◌<◌, ◌≤◌, List, length, Some, slice_get, slice_index_or, Contains}
-use Rattle.mars_refine.specs.declared.edges.Edge.{Edge}
+use Rattle.mars_refine.specs.declared.edge.Edge.{Edge}
 use Rattle.mars_tree.specs.Graph.{Node, shown_at, kids_of, Same}
 
 -- the class of a node

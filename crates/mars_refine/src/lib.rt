@@ -3,8 +3,10 @@
 
 mod chains;
 mod classes;
+mod edge;
 mod edges;
 mod found;
+mod links;
 mod marks;
 mod refine;
 mod writes;

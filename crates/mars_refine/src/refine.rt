@@ -4,10 +4,11 @@ ghost use Rattle.mars_tree.specs.Graph.{Node, IsGraph};
 ghost use Rattle.mars_refine.specs.Classes.{Parted, AreFree, IsSplitBy};
 ghost use Rattle.mars_refine.specs.Edges.{AreEdges, AreByPlace, IsWidth};
 ghost use Rattle.mars_refine.specs.Refine.{AreTrees, IsRefining, IsSplitTo};
-ghost use Rattle.mars_refine.specs.declared.edges.Edge.{Edge};
+ghost use Rattle.mars_refine.specs.declared.edge.Edge.{Edge};
 
 use crate::classes::Classes;
-use crate::edges::{Edge, Edges};
+use crate::edge::Edge;
+use crate::edges::Edges;
 use crate::found::{Found, find_edges, width};
 use crate::marks::classes_by_label;
 use mars_base::NoMemory;
@@ -32,9 +33,15 @@ fn split_by_place(found: &Found, place: usize, classes: &mut Classes) -> Result<
 }
 
 /// Parts nodes of which one has a kid in the class where the other has none, at each place of kids that is found, once.
-fn split_by_class(graph: &Graph, edges: &Edges, class: usize, found: &mut Found, classes: &mut Classes) -> Result<(), NoMemory>
+fn split_by_class(
+    graph: &Graph,
+    edges: &Edges,
+    class: usize,
+    found: &mut Found,
+    classes: &mut Classes,
+) -> Result<(), NoMemory>
     requires graph { IsGraph graph.now }
-    requires edges { AreEdges graph.now edges.now.edges.items edges.now.by_kid (length graph.now) 0 }
+    requires edges { AreEdges graph.now edges.now.edges.items edges.now.starts.items }
     requires class_in { class < classes.old.count }
     requires size { length classes.old.of ≡ length graph.now }
     requires free { AreFree classes.old }

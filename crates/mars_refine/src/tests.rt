@@ -6,7 +6,10 @@ use std::alloc::Global;
 use std::test::Fail;
 
 fn name(id: u32, arity: u32) -> Label {
-    Label::Name { name: NameId(id), arity }
+    Label::Name {
+        name: NameId(id),
+        arity,
+    }
 }
 
 /// How many classes there are.

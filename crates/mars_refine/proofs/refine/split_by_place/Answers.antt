@@ -1,6 +1,6 @@
-use Rattle.std.proofs.Common.{◌≡◌, ◌<◌, ◌-◌, ℕ, length, arith, ap, refl, Contains}
+use Rattle.std.proofs.Common.{◌<◌, ◌-◌, length, arith, ap, refl, Contains}
 use Rattle.std.proofs.lemmas.List.{get_or_read}
-use Rattle.mars_refine.specs.declared.edges.Edge.{Edge}
+use Rattle.mars_refine.specs.declared.edge.Edge.{Edge}
 use Rattle.mars_refine.proofs.Splitting.{marked_at_next, marked_at_end, split_by}
 use Rattle.mars_refine.proofs.refine.split_by_place.Goals as goal
 

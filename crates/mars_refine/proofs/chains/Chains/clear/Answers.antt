@@ -1,8 +1,7 @@
-use Rattle.std.proofs.Common.{◌≡◌, ◌<◌, [], ℕ, List, length, get_or, arith, ap, sym, subst, ◌∙◌}
+use Rattle.std.proofs.Common.{◌≡◌, ◌<◌, ℕ, List, length, get_or, arith, ap, sym, subst, ◌∙◌}
 use Rattle.std.proofs.lemmas.List.{get_or_default}
-use Rattle.mars_refine.specs.Chains.{Keyed, IsLinked}
-use Rattle.mars_refine.specs.Writes.{put_all}
-use Rattle.mars_refine.proofs.Linking.{linked-clear, cleared}
+use Rattle.mars_refine.specs.Chains.{Keyed}
+use Rattle.mars_refine.proofs.Linking.{cleared}
 use Rattle.mars_refine.proofs.Parting.{length-put_all}
 use Rattle.mars_refine.proofs.chains.Chains.clear.Goals as goal
 
