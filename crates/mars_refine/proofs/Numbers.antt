@@ -10,7 +10,7 @@ use Rattle.mars_tree.specs.declared.label.Label.{Label}
 use Rattle.mars_tree.specs.Graph.{Node, stands, label_of}
 use Rattle.mars_refine.specs.declared.marks.Shown.{Shown}
 use Rattle.mars_refine.specs.Marks.{AreNumbers, shown_of, shown_from}
-use Rattle.mars_refine.proofs.Parting.{true_or_false}
+use Rattle.mars_refine.proofs.Writing.{true_or_false}
 use Rattle.mars_refine.proofs.Linking.{push_cases}
 
 -- the numbers of the nodes below `node` are the places of what they show

@@ -12,7 +12,7 @@ use Rattle.mars_refine.specs.Marks.{AreNumbers}
 use Rattle.std.proofs.lemmas.List.{length-replicate, get_or-replicate}
 use Rattle.mars_refine.specs.Edges.{edge_at, AreEdges, AreByPlace, IsEdgeInto, IsWidth}
 use Rattle.std.proofs.lemmas.Option.{slice_get_within}
-use Rattle.mars_refine.proofs.Parting.{set_cases, true_or_false}
+use Rattle.mars_refine.proofs.Writing.{set_cases, true_or_false}
 use Rattle.mars_refine.proofs.Refining.{split_start, split_more, same_shown}
 use Rattle.mars_tree.proofs.Paths.{kid_in}
 

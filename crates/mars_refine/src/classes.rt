@@ -1,5 +1,5 @@
 //! A partition of nodes into classes that are split, the smaller part under a new number.
-ghost use Rattle.std.specs.Prelude.{◌≡◌, ◌⊎◌, ◌<◌, ◌≤◌, ◌+◌, [], ℕ, true, false, length, slice_set, IfOk, OnOk, OnErr, All, replicate, slice_range};
+ghost use Rattle.std.specs.Prelude.{◌≡◌, ◌⊎◌, ◌<◌, ◌≤◌, ◌+◌, [], ℕ, true, false, length, slice_set, IfOk, OnOk, OnErr, All, Contains, replicate, slice_range};
 ghost use Rattle.mars_refine.specs.Classes.{Parted, AreMembers, IsSplit};
 ghost use Rattle.mars_refine.specs.ClassesInside.{IsPartedInside, AreTouched, parted_of, SplitsOne, span_of};
 ghost use Rattle.mars_refine.specs.Refine.{class_of};
@@ -94,7 +94,7 @@ impl Classes {
         ensures sized { length self.new.marked ≡ length self.new.of }
         ensures marked { OnOk result (self.new.marked ≡ slice_set self.old.marked node true) }
     {
-        self.touched.push(self.parts.of[node])?;
+        touch(&mut self.touched, &self.parts, node)?;
         move_front(&mut self.parts, node);
         Ok(())
     }
@@ -145,6 +145,22 @@ fn slice(numbers: &[usize], from: usize, to: usize) -> &[usize]
     ensures { result.now ≡ slice_range numbers.now from to }
 {
     &numbers[from..to]
+}
+
+/// Puts the class of a node into the list, where it isn't there for another node.
+fn touch(touched: &mut Vec<usize>, parts: &Parts, node: usize) -> Result<(), NoMemory>
+    requires parted { IsPartedInside parts.now }
+    requires node_in { node < length parts.now.of.items }
+    requires touched { AreTouched (parted_of parts.now) touched.old.items }
+    ensures touched { AreTouched (parted_of parts.now) touched.new.items }
+    ensures there { OnOk result (Contains touched.new.items (class_of parts.now.of.items node)) }
+{
+    let class = parts.of[node];
+    let span = parts.spans[class];
+    if span.start == span.middle {
+        touched.push(class)?;
+    }
+    Ok(())
 }
 
 /// Moves a node to the front of its class, behind those that are marked, and marks it.

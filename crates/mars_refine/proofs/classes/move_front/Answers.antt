@@ -1,4 +1,4 @@
-use Rattle.mars_refine.proofs.Parting.{move_reads}
+use Rattle.mars_refine.proofs.Moving.{move_reads}
 use Rattle.mars_refine.proofs.classes.move_front.Goals as goal
 
 pub returns-clause-parted : goal.returns-clause-parted

@@ -3,7 +3,7 @@ use Rattle.std.proofs.lemmas.List.{take_more, take_all}
 use Rattle.std.proofs.lemmas.List.Elements.{All-get_or}
 use Rattle.mars_refine.specs.Classes.{Parted}
 use Rattle.mars_refine.specs.ClassesInside.{AreTouched, SplitsEach, parted_of}
-use Rattle.mars_refine.proofs.Parting.{split_next, split_all, still_touched}
+use Rattle.mars_refine.proofs.Touching.{split_next, split_all, still_touched}
 use Rattle.mars_refine.proofs.classes.split_each.Goals as goal
 
 pub returns-in_err-split_class-clause-touched : goal.returns-in_err-split_class-clause-touched

@@ -2,7 +2,7 @@ use Rattle.std.proofs.Common.{◌≡◌, ◌<◌, ℕ, List, length, get_or, ari
 use Rattle.std.proofs.lemmas.List.{get_or_default}
 use Rattle.mars_refine.specs.Chains.{Keyed}
 use Rattle.mars_refine.proofs.Linking.{cleared}
-use Rattle.mars_refine.proofs.Parting.{length-put_all}
+use Rattle.mars_refine.proofs.Writing.{length-put_all}
 use Rattle.mars_refine.proofs.chains.Chains.clear.Goals as goal
 
 pub write_all-requires : goal.write_all-requires

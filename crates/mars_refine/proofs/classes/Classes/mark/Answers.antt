@@ -1,7 +1,6 @@
 use Rattle.std.proofs.Common.{◌<◌, length, arith, ap}
-use Rattle.std.proofs.lemmas.List.{get_or_read}
 use Rattle.mars_refine.specs.Classes.{Parted}
-use Rattle.mars_refine.proofs.Parting.{touched_more}
+use Rattle.mars_refine.proofs.Touching.{touched_more}
 use Rattle.mars_refine.proofs.classes.Classes.mark.Goals as goal
 
 pub invariant_of-self-2 : goal.invariant_of-self-2
@@ -9,6 +8,6 @@ invariant_of-self-2 c =
     let node_in : c.args.node < length c.self.inside.parts.of.items = omega (arith, ap (λ (p : Parted). length p.of) c.self.view_is) in
     let m = c.move_front.ensures in (
       m.parted,
-      touched_more c.self.inside.parts.of.items c.self.inside.parts.order.items c.self.inside.parts.place.items c.self.inside.parts.spans.items c.self.inside.parts.marked.items c.self.invariant.0 c.self.inside.touched.items c.push.new.self.items c.args.node c.index.result.now c.move_front.new.parts.of.items c.move_front.new.parts.marked.items (length c.move_front.new.parts.spans.items)
-          node_in c.self.invariant.1 (get_or_read c.self.inside.parts.of.items c.args.node c.index.result.now node_in c.index.ensures 0) c.in_ok-push.ensures.items m.of m.count m.marked,
+      touched_more c.self.inside.parts.of.items c.self.inside.parts.order.items c.self.inside.parts.place.items c.self.inside.parts.spans.items c.self.inside.parts.marked.items c.self.invariant.0 c.touch.new.touched.items c.args.node c.move_front.new.parts.of.items c.move_front.new.parts.marked.items (length c.move_front.new.parts.spans.items)
+          node_in c.touch.ensures.touched c.in_ok-touch.ensures.there m.of m.count m.marked,
     )
