@@ -1,16 +1,17 @@
 -- A partition of nodes, laid out in one order.
-use Rattle.std.proofs.Common.{◌≡◌, ◌≢◌, ◌⊎◌, ℕ, zero, suc, ◌<◌, ◌≤◌, ◌+◌, ◌-◌, List, [], ◌∷◌, ◌++◌, Bool, true, false, length, get_or, set, take, drop, replicate, refl, sym, subst, ap, ◌∙◌, arith, inl, inr, Contains, length-set}
+use Rattle.std.proofs.Common.{◌≡◌, ◌≢◌, ◌⊎◌, ℕ, ◌<◌, ◌≤◌, ◌+◌, ◌-◌, List, [], ◌∷◌, ◌++◌, Bool, true, false, length, get_or, set, take, drop, replicate, refl, sym, subst, ap, ◌∙◌, arith, inl, inr, Contains, length-set}
 use Rattle.std.proofs.lemmas.Bool.{cases_lt, cases_eq}
 use Rattle.std.proofs.lemmas.List.{get_or_read, length-take, length-take-le, length-drop, get_or-take, get_or-drop, get_or_default, length_push, length-replicate, get_or-replicate, get_or_push, get_or-set_same, get_or-set_other, get_or_append_left}
 use Rattle.mars_tree.proofs.Pigeonhole.{pigeonhole, Twice}
-use Rattle.std.proofs.lemmas.List.Elements.{Contains-append_left, Contains-push, Contains-push_cases, All-weaker, All-push}
 use Rattle.mars_refine.specs.declared.classes.Span.{Span}
 use Rattle.mars_refine.specs.Refine.{class_of}
-use Rattle.mars_refine.specs.Classes.{Parted, IsSplit, is_marked, AreMembers}
+use Rattle.mars_refine.specs.Classes.{is_marked, AreEachOnce, AreMembers}
+use Rattle.std.proofs.Common.{Some, slice_get}
+use Rattle.std.proofs.lemmas.Option.{slice_get_within, get_or_from_slice_get}
 use Rattle.mars_refine.specs.Writes.{put_all}
-use Rattle.mars_refine.specs.ClassesInside.{at_place, span_of, IsOrder, IsParted, AreTouched, SplitsOne, SplitsEach}
+use Rattle.mars_refine.specs.ClassesInside.{at_place, span_of, IsOrder, IsParted, SplitsOne}
 use Rattle.mars_refine.proofs.Moving.{no_span}
-use Rattle.mars_refine.proofs.Writing.{set_cases, true_or_false, length-put_all, put_all-there, put_all-kept, put_all-other}
+use Rattle.mars_refine.proofs.Writing.{set_cases, true_or_false, length-put_all, put_all-there, put_all-other}
 
 -- two halves of a span
 pub record Halves (s m e a b c d : ℕ) : Type 0 where
@@ -76,7 +77,6 @@ from_part xs a b u le (k, within, here) =
     let e : get_or xs (a + k) 0 ≡ u =
     get_or_default xs (a + k) 0 u (omega arith) ∙ sym (get_or-drop a xs k u) ∙ sym (get_or-take (b - a) (drop a xs) k u k_lt) ∙ here in
     (a + k, (omega arith, omega arith, e))
-
 
 module _ (of order place : List ℕ) (spans : List Span) (marked : List Bool) (is : IsParted of order place spans marked) where
   -- a value written at the nodes of a part of the order
@@ -505,6 +505,18 @@ module _ (of order place : List ℕ) (spans : List Span) (marked : List Bool) (i
             (subst (λ (v : ℕ). v < length of) f.1.2 (is.ordered.node_in f.0 i_in), sym (ap (class_of of) f.1.2) ∙ is.inside class f.0 class_in f.1.0 f.1.1),
         λ h. in_part order s.start s.end u le (at_place place u, (omega (arith, is.from_start u h.0, ap (λ c. (span_of spans c).start) h.1), omega (arith, is.to_end u h.0, ap (λ c. (span_of spans c).end) h.1), is.ordered.there u h.0)),
       )
+
+  -- and each stands once
+  pub members_once : (class : ℕ) → class < length spans → AreEachOnce (take ((span_of spans class).end - (span_of spans class).start) (drop (span_of spans class).start order))
+  members_once class class_in i j u left right =
+      let s = span_of spans class in
+      let to : s.end ≤ length of = is.end_le class class_in in
+      let size : length (take (s.end - s.start) (drop s.start order)) ≤ s.end - s.start = omega (arith, length-take (s.end - s.start) (drop s.start order)) in
+      let stands : (k : ℕ) → slice_get (take (s.end - s.start) (drop s.start order)) k ≡ Some u → at_place place u ≡ s.start + k = λ k here.
+      let k_in : k < s.end - s.start = omega (arith, slice_get_within (take (s.end - s.start) (drop s.start order)) k u here, size) in
+      let read : at_place order (s.start + k) ≡ u = sym (get_or-drop s.start order k 0) ∙ sym (get_or-take (s.end - s.start) (drop s.start order) k 0 k_in) ∙ get_or_from_slice_get (take (s.end - s.start) (drop s.start order)) k u 0 here in
+      sym (ap (at_place place) read) ∙ is.ordered.back (s.start + k) (omega arith) in
+      omega (arith, stands i left, stands j right)
 
   pub some_members : (class : ℕ) → class < length spans → 0 < length (take ((span_of spans class).end - (span_of spans class).start) (drop (span_of spans class).start order))
   some_members class class_in =

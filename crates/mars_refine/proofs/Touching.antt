@@ -1,15 +1,11 @@
 -- The classes of marked nodes, which are parted one after another.
-use Rattle.std.proofs.Common.{◌≡◌, ◌≢◌, ◌⊎◌, ℕ, zero, suc, ◌<◌, ◌≤◌, ◌+◌, ◌-◌, List, [], ◌∷◌, ◌++◌, Bool, true, false, length, get_or, set, take, drop, replicate, refl, sym, subst, ap, ◌∙◌, arith, inl, inr, Contains, length-set}
+use Rattle.std.proofs.Common.{◌≡◌, ◌≢◌, ◌⊎◌, ℕ, zero, suc, ◌<◌, ◌≤◌, List, [], ◌∷◌, ◌++◌, Bool, true, false, length, set, refl, sym, subst, ap, ◌∙◌, arith, inl, inr, Contains}
 use Rattle.std.proofs.lemmas.Bool.{cases_lt, cases_eq}
-use Rattle.std.proofs.lemmas.List.{get_or_read, length-take, length-take-le, length-drop, get_or-take, get_or-drop, get_or_default, length_push, length-replicate, get_or-replicate, get_or_push, get_or-set_same, get_or-set_other, get_or_append_left}
-use Rattle.mars_tree.proofs.Pigeonhole.{pigeonhole, Twice}
-use Rattle.std.proofs.lemmas.List.Elements.{Contains-append_left, Contains-push, Contains-push_cases, All-weaker, All-push}
+use Rattle.std.proofs.lemmas.List.Elements.{Contains-append_left, Contains-push, Contains-push_cases, All-weaker}
 use Rattle.mars_refine.specs.declared.classes.Span.{Span}
 use Rattle.mars_refine.specs.Refine.{class_of}
-use Rattle.mars_refine.specs.Classes.{Parted, IsSplit, is_marked, AreMembers}
-use Rattle.mars_refine.specs.Writes.{put_all}
-use Rattle.mars_refine.specs.ClassesInside.{at_place, span_of, IsOrder, IsParted, AreTouched, SplitsOne, SplitsEach}
-
+use Rattle.mars_refine.specs.Classes.{Parted, IsSplit, is_marked}
+use Rattle.mars_refine.specs.ClassesInside.{at_place, span_of, IsParted, AreTouched, SplitsOne, SplitsEach}
 use Rattle.mars_refine.proofs.Writing.{set_cases, true_or_false}
 
 not_either : (y : ℕ) (xs : List ℕ) (x : ℕ) → (y ≡ x → ⊥) → (Contains xs x → ⊥) → Contains (y ∷ xs) x → ⊥

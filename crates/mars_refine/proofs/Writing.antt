@@ -1,15 +1,8 @@
 -- What is read behind writes.
-use Rattle.std.proofs.Common.{◌≡◌, ◌≢◌, ◌⊎◌, ℕ, zero, suc, ◌<◌, ◌≤◌, ◌+◌, ◌-◌, List, [], ◌∷◌, ◌++◌, Bool, true, false, length, get_or, set, take, drop, replicate, refl, sym, subst, ap, ◌∙◌, arith, inl, inr, Contains, length-set}
-use Rattle.std.proofs.lemmas.Bool.{cases_lt, cases_eq}
-use Rattle.std.proofs.lemmas.List.{get_or_read, length-take, length-take-le, length-drop, get_or-take, get_or-drop, get_or_default, length_push, length-replicate, get_or-replicate, get_or_push, get_or-set_same, get_or-set_other, get_or_append_left}
-use Rattle.mars_tree.proofs.Pigeonhole.{pigeonhole, Twice}
-use Rattle.std.proofs.lemmas.List.Elements.{Contains-append_left, Contains-push, Contains-push_cases, All-weaker, All-push}
-use Rattle.mars_refine.specs.declared.classes.Span.{Span}
-use Rattle.mars_refine.specs.Refine.{class_of}
-use Rattle.mars_refine.specs.Classes.{Parted, IsSplit, is_marked, AreMembers}
+use Rattle.std.proofs.Common.{◌≡◌, ◌≢◌, ◌⊎◌, ℕ, zero, suc, ◌<◌, List, [], ◌∷◌, Bool, true, false, length, get_or, set, refl, sym, ap, ◌∙◌, arith, inl, inr, Contains, length-set}
+use Rattle.std.proofs.lemmas.Bool.{cases_eq}
+use Rattle.std.proofs.lemmas.List.{get_or-set_same, get_or-set_other}
 use Rattle.mars_refine.specs.Writes.{put_all}
-use Rattle.mars_refine.specs.ClassesInside.{at_place, span_of, IsOrder, IsParted, AreTouched, SplitsOne, SplitsEach}
-
 
 -- what is read behind a write
 pub set_cases : {X : Type 0} (xs : List X) (i j : ℕ) (v d : X) → i < length xs → ((j ≡ i) × (get_or (set xs i v) j d ≡ v)) ⊎ ((j ≢ i) × (get_or (set xs i v) j d ≡ get_or xs j d))

@@ -1,12 +1,15 @@
+-- How the nodes of classes are laid out, and the steps of a split.
 use Rattle.std.specs.Prelude.{◌≡◌, ◌≢◌, ◌↔◌, ℕ, ◌<◌, ◌≤◌, List, Bool, true, false, length, slice_index_or, All, Contains}
 use Rattle.mars_refine.specs.declared.classes.Span.{Span}
 use Rattle.mars_refine.specs.declared.classes.Parts.{Parts}
 use Rattle.mars_refine.specs.Refine.{class_of, Moved}
 use Rattle.mars_refine.specs.Classes.{Parted, is_marked}
 
+-- what stands at a place
 abbrev pub at_place : List ℕ → ℕ → ℕ
 at_place xs i = slice_index_or xs i 0
 
+-- where the nodes of a class stand
 abbrev pub span_of : List Span → ℕ → Span
 span_of spans c = slice_index_or spans c (record { start = 0; middle = 0; end = 0 })
 
@@ -34,9 +37,11 @@ pub record IsParted (of order place : List ℕ) (spans : List Span) (marked : Li
   pub front : (u : ℕ) → u < length of → is_marked marked u ≡ true → at_place place u < (span_of spans (class_of of u)).middle
   pub behind : (u : ℕ) → u < length of → is_marked marked u ≡ false → (span_of spans (class_of of u)).middle ≤ at_place place u
 
+-- the fields of `Parts` are laid out so
 abbrev pub IsPartedInside : Parts → Type 0
 IsPartedInside p = IsParted p.of.items p.order.items p.place.items p.spans.items p.marked.items
 
+-- what contracts see of the fields
 abbrev pub parted_of : Parts → Parted
 parted_of p = record { of = p.of.items; count = length p.spans.items; marked = p.marked.items }
 

@@ -1,3 +1,4 @@
+-- Refinement: what holds of the classes while they are split, and when that is done.
 use Rattle.std.specs.Prelude.{◌≡◌, ◌↔◌, ◌⊎◌, ℕ, ◌<◌, ◌≤◌, List, length, Some, slice_get, slice_index_or, Contains}
 use Rattle.mars_refine.specs.declared.edge.Edge.{Edge}
 use Rattle.mars_tree.specs.Graph.{Node, shown_at, kids_of, Same}

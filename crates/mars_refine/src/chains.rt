@@ -7,7 +7,7 @@ use mars_base::NoMemory;
 use std::alloc::Global;
 use std::marker::Model;
 
-/// The keys of entries, each entry linked to the one before it with its key. Links are one more than the entry.
+/// The keys of entries, each entry linked to the one before it with its key. A link is one more than the entry, or 0 for none.
 #[derive(Drop)]
 pub struct Chains {
     lasts: Vec<usize>,
@@ -27,6 +27,7 @@ impl Model for Chains {
 }
 
 impl Chains {
+    /// No entry, with keys below a size.
     pub fn new(alloc: Global, size: usize) -> Result<Chains, NoMemory>
         ensures { IfOk result (λ c. c ≡ record { size = size; keys = [] }) }
     {

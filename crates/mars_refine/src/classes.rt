@@ -1,7 +1,9 @@
-//! A partition of nodes into classes that are split, the smaller part under a new number.
+//! A partition of nodes into classes that are split by marks, the smaller part under a new number (Hopcroft 1971).
+//!
+//! A split costs time linear in the marks. After want of memory the classes hold together and are dropped by the caller.
 ghost use Rattle.std.specs.Prelude.{◌≡◌, ◌⊎◌, ◌<◌, ◌≤◌, ◌+◌, [], ℕ, true, false, length, slice_set, IfOk, OnOk, OnErr, All, Contains, replicate, slice_range};
-ghost use Rattle.mars_refine.specs.Classes.{Parted, AreMembers, IsSplit};
-ghost use Rattle.mars_refine.specs.ClassesInside.{IsPartedInside, AreTouched, parted_of, SplitsOne, span_of};
+ghost use Rattle.mars_refine.specs.Classes.{Parted, AreEachOnce, AreMembers, IsSplit};
+ghost use Rattle.mars_refine.specs.ClassesInside.{IsPartedInside, at_place, AreTouched, parted_of, SplitsOne, span_of};
 ghost use Rattle.mars_refine.specs.Refine.{class_of};
 
 use crate::writes::write_all;
@@ -9,7 +11,7 @@ use mars_base::NoMemory;
 use std::alloc::Global;
 use std::marker::Model;
 
-/// Classes of nodes, of which some nodes may be marked.
+/// Classes of nodes. Each node is in one class; classes are numbered from 0 and none is without a node.
 #[derive(Drop)]
 pub struct Classes {
     parts: Parts,
@@ -58,7 +60,7 @@ impl Classes {
         })
     }
 
-    /// How many classes there are.
+    /// How many classes there are, at most as many as nodes: each node's class is a number below it.
     pub fn count(&self) -> usize
         ensures count { result ≡ self.now.count }
         ensures below { (u : ℕ) → u < length self.now.of → class_of self.now.of u < result }
@@ -67,7 +69,7 @@ impl Classes {
         self.parts.spans.len()
     }
 
-    /// The class of a node.
+    /// The number of a node's class.
     pub fn of(&self, node: usize) -> usize
         requires { node < length self.now.of }
         ensures class { result ≡ class_of self.now.of node }
@@ -76,17 +78,18 @@ impl Classes {
         self.parts.of[node]
     }
 
-    /// The nodes of a class.
+    /// The nodes of a class, each once, in no order that is promised. There is at least one.
     pub fn members(&self, class: usize) -> &[usize]
         requires { class < self.now.count }
         ensures members { AreMembers self.now.of class result.now }
+        ensures once { AreEachOnce result.now }
         ensures some { 0 < length result.now }
     {
         let span = self.parts.spans[class];
         slice(&self.parts.order, span.start, span.end)
     }
 
-    /// Marks a node.
+    /// Marks a node, in constant time.
     pub(crate) fn mark(&mut self, node: usize) -> Result<(), NoMemory>
         requires { node < length self.old.of }
         ensures of { self.new.of ≡ self.old.of }
@@ -99,7 +102,7 @@ impl Classes {
         Ok(())
     }
 
-    /// Parts the marked nodes of each class from the others, and takes all marks away.
+    /// Parts the marked nodes of each class from the others, and takes all marks away, in time linear in the marks.
     pub(crate) fn split(&mut self) -> Result<(), NoMemory>
         ensures { OnOk result (IsSplit self.old self.new) }
     {
@@ -109,19 +112,24 @@ impl Classes {
     }
 }
 
+/// All numbers below a count, in order.
+fn numbers_below(alloc: Global, count: usize) -> Result<Vec<usize>, NoMemory>
+    ensures size { IfOk result (λ all. length all.items ≡ count) }
+    ensures are { IfOk result (λ all. (i : ℕ) → i < count → at_place all.items i ≡ i) }
+{
+    let mut all = Vec::new(alloc);
+    for number in 0..count {
+        all.push(number)?;
+    }
+    Ok(all)
+}
+
+/// All nodes in one class, or no class where there is no node.
 fn all_in_one(alloc: Global, count: usize) -> Result<Parts, NoMemory>
     ensures parted { IfOk result (λ p. IsPartedInside p) }
     ensures of { IfOk result (λ p. p.of.items ≡ replicate count 0) }
     ensures marked { IfOk result (λ p. p.marked.items ≡ replicate count false) }
 {
-    let mut order = Vec::new(alloc);
-    for node in 0..count {
-        order.push(node)?;
-    }
-    let mut place = Vec::new(alloc);
-    for node in 0..count {
-        place.push(node)?;
-    }
     let mut spans = Vec::new(alloc);
     if count > 0 {
         spans.push(Span {
@@ -132,13 +140,14 @@ fn all_in_one(alloc: Global, count: usize) -> Result<Parts, NoMemory>
     }
     Ok(Parts {
         of: vec![in alloc; 0; count]?,
-        order,
-        place,
+        order: numbers_below(alloc, count)?,
+        place: numbers_below(alloc, count)?,
         spans,
         marked: vec![in alloc; false; count]?,
     })
 }
 
+/// The numbers from one place to another.
 fn slice(numbers: &[usize], from: usize, to: usize) -> &[usize]
     requires order { from ≤ to }
     requires within { to ≤ length numbers.now }
@@ -187,7 +196,7 @@ fn move_front(parts: &mut Parts, node: usize)
     parts.marked[node] = true;
 }
 
-/// The two in the order of their lengths.
+/// The two, the shorter one first.
 fn smaller_first(front: Span, back: Span) -> (Span, Span)
     requires front_is { front.start ≤ front.end }
     requires back_is { back.start ≤ back.end }
@@ -200,7 +209,7 @@ fn smaller_first(front: Span, back: Span) -> (Span, Span)
     }
 }
 
-/// Parts the marked nodes of a class from the others, where there are some of each.
+/// Parts the marked nodes of a class from the others, where there are some of each. The smaller part gets the new number.
 fn part_class(parts: &mut Parts, class: usize) -> Result<(), NoMemory>
     requires parted { IsPartedInside parts.old }
     requires class_in { class < length parts.old.spans.items }
@@ -267,6 +276,7 @@ fn split_class(parts: &mut Parts, class: usize) -> Result<(), NoMemory>
     part_class(parts, class)
 }
 
+/// Parts the classes of a list, one after another.
 fn split_each(parts: &mut Parts, touched: &[usize]) -> Result<(), NoMemory>
     requires parted { IsPartedInside parts.old }
     requires touched { AreTouched (parted_of parts.old) touched.now }

@@ -1,4 +1,4 @@
-//! The classes of a graph's nodes that are the same tree.
+//! Which nodes of a graph are the same tree: one class of nodes for each tree.
 #![tactic(auto)]
 
 mod chains;

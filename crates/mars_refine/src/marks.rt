@@ -1,4 +1,4 @@
-//! Numbers for what is shown at nodes.
+//! The first classes: nodes at which the same is shown.
 ghost use Rattle.std.specs.Prelude.{◌≡◌, ◌<◌, ◌≤◌, ◌+◌, ◌-◌, ℕ, length, IfOk, OnOk, All, slice_index_or};
 ghost use Rattle.mars_refine.specs.Classes.{AreFree, IsSplitBy};
 ghost use Rattle.mars_refine.specs.Marks.{AreNumbers, shown_of};
@@ -19,6 +19,7 @@ pub enum Shown {
     Free(usize),
 }
 
+/// What is shown at a node of a graph.
 fn shown_at(graph: &Graph, node: usize) -> Shown
     requires { node < length graph.now }
     ensures { result ≡ shown_of graph.now node }
@@ -42,6 +43,7 @@ fn numbers(alloc: Global, graph: &Graph) -> Result<Vec<usize>, NoMemory>
     Ok(numbers)
 }
 
+/// The numbers as keys of entries.
 fn chained(alloc: Global, size: usize, numbers: &[usize]) -> Result<Chains, NoMemory>
     requires { All (λ n. n < size) numbers.now }
     ensures { IfOk result (λ c. c ≡ record { size = size; keys = numbers.now }) }
@@ -53,7 +55,7 @@ fn chained(alloc: Global, size: usize, numbers: &[usize]) -> Result<Chains, NoMe
     Ok(chains)
 }
 
-/// Parts the nodes with a number from the others.
+/// Parts the nodes with a number from the others, in time linear in these nodes.
 fn split_by_number(chains: &Chains, number: usize, classes: &mut Classes) -> Result<(), NoMemory>
     requires number_in { number < chains.now.size }
     requires size { length chains.now.keys ≡ length classes.old.of }
@@ -69,7 +71,7 @@ fn split_by_number(chains: &Chains, number: usize, classes: &mut Classes) -> Res
     Ok(())
 }
 
-/// The classes of nodes at which the same is shown.
+/// The classes of nodes at which the same is shown, in time linear in the nodes.
 pub fn classes_by_label(alloc: Global, graph: &Graph) -> Result<Classes, NoMemory>
     ensures size { IfOk result (λ c. length c.of ≡ length graph.now) }
     ensures free { IfOk result (λ c. AreFree c) }

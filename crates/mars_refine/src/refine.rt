@@ -1,4 +1,9 @@
-//! Classes of nodes that are the same tree.
+//! Classes of nodes that are the same tree, by partition refinement (Hopcroft 1971).
+//!
+//! Classes are numbered in the order in which they are made, and each parts others once, in that order: the nodes that
+//! have a kid in it at some place from those that have none. Where a class is split, the smaller part gets a new number
+//! and so has a turn to come. The larger part keeps the number: it has a turn to come where the whole class had, and
+//! else it needs none, since the whole class has parted others and the smaller part will.
 ghost use Rattle.std.specs.Prelude.{◌≡◌, ◌<◌, ◌≤◌, ◌+◌, ℕ, List, length, IfOk, OnOk, All, Contains};
 ghost use Rattle.mars_tree.specs.Graph.{Node, IsGraph};
 ghost use Rattle.mars_refine.specs.Classes.{Parted, AreFree, IsSplitBy};
@@ -15,7 +20,7 @@ use mars_base::NoMemory;
 use mars_tree::Graph;
 use std::alloc::Global;
 
-/// Parts the nodes that have a found edge at the place from those that have none.
+/// Parts the nodes that have a found edge at the place from those that have none, in time linear in these edges.
 fn split_by_place(found: &Found, place: usize, classes: &mut Classes) -> Result<(), NoMemory>
     requires place_in { place < found.now.by_place.size }
     requires beside { AreByPlace found.now.edges.items found.now.by_place.keys }
@@ -32,7 +37,8 @@ fn split_by_place(found: &Found, place: usize, classes: &mut Classes) -> Result<
     Ok(())
 }
 
-/// Parts nodes of which one has a kid in the class where the other has none, at each place of kids that is found, once.
+/// Parts nodes of which one has a kid in the class where the other has none. Each place of kids is done once, with the last
+/// of its edges, so the time is linear in the edges into the class.
 fn split_by_class(
     graph: &Graph,
     edges: &Edges,
@@ -62,7 +68,9 @@ fn split_by_class(
     Ok(())
 }
 
-/// The classes of nodes that are the same tree, in time n log n times the arity.
+/// The classes of a graph's nodes: two nodes are in one class exactly where they are the same tree, finite or infinite.
+/// Free leaves are each a tree of their own. With `n` nodes, and edges in proportion to them, the time is in proportion
+/// to `n log n` and the memory to `n`, however many kids one node has. The error is want of memory alone.
 pub fn classes_by_tree(alloc: Global, graph: &Graph) -> Result<Classes, NoMemory>
     ensures size { IfOk result (λ c. length c.of ≡ length graph.now) }
     ensures trees { IfOk result (λ c. AreTrees graph.now c.of) }

@@ -1,9 +1,9 @@
 use Rattle.std.proofs.Common.{◌≡◌, ◌<◌, ◌-◌, ℕ, List, length, take, drop, arith, ap, sym, subst, ◌∙◌}
 use Rattle.std.proofs.lemmas.List.{get_or_read}
 use Rattle.mars_refine.specs.declared.classes.Span.{Span}
-use Rattle.mars_refine.specs.Classes.{Parted, AreMembers}
+use Rattle.mars_refine.specs.Classes.{Parted, AreEachOnce, AreMembers}
 use Rattle.mars_refine.specs.ClassesInside.{span_of}
-use Rattle.mars_refine.proofs.Parting.{members_are, some_members}
+use Rattle.mars_refine.proofs.Parting.{members_are, members_once, some_members}
 use Rattle.mars_refine.proofs.classes.Classes.members.Goals as goal
 
 span_read : (spans : List Span) (class : ℕ) (span : Span) → class < length spans → span ≡ Rattle.std.proofs.Common.get_or spans class span → span ≡ span_of spans class
@@ -18,6 +18,12 @@ returns-clause-members c =
     let e = part_is c.self.inside.parts.order.items c.self.inside.parts.spans.items c.args.class c.index-span.result.now c.slice.result.now c.deref.result.now (span_read c.self.inside.parts.spans.items c.args.class c.index-span.result.now class_in c.index-span.ensures) c.deref.ensures.value c.slice.ensures in
     let m : AreMembers c.self.inside.parts.of.items c.args.class c.slice.result.now = subst (AreMembers c.self.inside.parts.of.items c.args.class) (sym e) (members_are c.self.inside.parts.of.items c.self.inside.parts.order.items c.self.inside.parts.place.items c.self.inside.parts.spans.items c.self.inside.parts.marked.items c.self.invariant.0 c.args.class class_in) in
     subst (λ (p : Parted). AreMembers p.of c.args.class c.slice.result.now) c.self.view_is m
+
+pub returns-clause-once : goal.returns-clause-once
+returns-clause-once c =
+    let class_in : c.args.class < length c.self.inside.parts.spans.items = omega (arith, ap (λ (p : Parted). p.count) c.self.view_is) in
+    let e = part_is c.self.inside.parts.order.items c.self.inside.parts.spans.items c.args.class c.index-span.result.now c.slice.result.now c.deref.result.now (span_read c.self.inside.parts.spans.items c.args.class c.index-span.result.now class_in c.index-span.ensures) c.deref.ensures.value c.slice.ensures in
+    subst AreEachOnce (sym e) (members_once c.self.inside.parts.of.items c.self.inside.parts.order.items c.self.inside.parts.place.items c.self.inside.parts.spans.items c.self.inside.parts.marked.items c.self.invariant.0 c.args.class class_in)
 
 pub returns-clause-some : goal.returns-clause-some
 returns-clause-some c =
