@@ -1,0 +1,7 @@
+pub mod Flat
+pub mod Images
+pub mod Numbers
+pub mod Ordering
+pub mod Parts
+pub mod Queues
+pub mod Walked

@@ -1,0 +1,1 @@
+//! What roots reach.
