@@ -1,7 +1,7 @@
 //! A partition of nodes into classes that are split by marks, the smaller part under a new number (Hopcroft 1971).
 //!
 //! A split costs time linear in the marks. After want of memory the classes hold together and are dropped by the caller.
-ghost use Rattle.std.specs.Prelude.{◌≡◌, ◌⊎◌, ◌<◌, ◌≤◌, ◌+◌, [], ℕ, true, false, length, slice_set, IfOk, OnOk, OnErr, All, Contains, replicate, slice_range};
+ghost use Rattle.std.specs.Prelude.{◌≡◌, ◌⊎◌, ◌<◌, ◌≤◌, ◌+◌, ◌-◌, [], ℕ, true, false, length, slice_set, IfOk, OnOk, OnErr, All, Contains, replicate, slice_range};
 ghost use Rattle.mars_refine.specs.Classes.{Parted, AreEachOnce, AreMembers, IsSplit};
 ghost use Rattle.mars_refine.specs.ClassesInside.{IsPartedInside, at_place, AreTouched, parted_of, SplitsOne, span_of};
 ghost use Rattle.mars_refine.specs.Refine.{class_of};
@@ -200,7 +200,8 @@ fn move_front(parts: &mut Parts, node: usize)
 fn smaller_first(front: Span, back: Span) -> (Span, Span)
     requires front_is { front.start ≤ front.end }
     requires back_is { back.start ≤ back.end }
-    ensures { (result ≡ (front, back)) ⊎ (result ≡ (back, front)) }
+    ensures both { (result ≡ (front, back)) ⊎ (result ≡ (back, front)) }
+    ensures shorter { result.0.end - result.0.start ≤ result.1.end - result.1.start }
 {
     if front.end - front.start <= back.end - back.start {
         (front, back)
