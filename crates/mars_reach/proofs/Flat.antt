@@ -52,29 +52,32 @@ flat_below g number count (n ∷ nodes) all =
     (All-map (λ kid. kid < count) number (kids_of g n) (All-head (λ n. All (λ kid. number kid < count) (kids_of g n)) n nodes all))
     (flat_below g number count nodes (All-tail (λ n. All (λ kid. number kid < count) (kids_of g n)) n nodes all))
 
--- one node more of a list
-one_more : (nodes : List ℕ) (k n : ℕ) → slice_get nodes k ≡ Some n → take (k + 1) nodes ≡ take k nodes ++ n ∷ []
-one_more nodes k n get = take_more nodes k 0 (slice_get_within nodes k n get) ∙ ap (λ m. take k nodes ++ m ∷ []) (get_or_from_slice_get nodes k n 0 get)
-
-pub labels_more : (f : ℕ → Option Label) (nodes : List ℕ) (k n : ℕ) (now new : List (Option Label)) → slice_get nodes k ≡ Some n → now ≡ map f (take k nodes) → new ≡ now ++ f n ∷ [] → new ≡ map f (take (k + 1) nodes)
-labels_more f nodes k n now new get before after =
-    after ∙ ap (λ ls. ls ++ f n ∷ []) before ∙ sym (ap (map f) (one_more nodes k n get) ∙ map-append f (take k nodes) (n ∷ []))
-
-pub kids_more : (f : ℕ → List ℕ) (nodes : List ℕ) (k n : ℕ) (now new : List ℕ) → slice_get nodes k ≡ Some n → now ≡ flat_map f (take k nodes) → new ≡ now ++ f n → new ≡ flat_map f (take (k + 1) nodes)
-kids_more f nodes k n now new get before after =
-    after ∙ ap (λ ks. ks ++ f n) before
-    ∙ sym (ap (flat_map f) (one_more nodes k n get) ∙ flat_map-append f (take k nodes) (n ∷ []) ∙ ap (λ ks. flat_map f (take k nodes) ++ ks) (append-nil (f n)))
-
--- the two lists, when all nodes of a list are laid out
+-- the labels of nodes, and behind one another their kids under other numbers
 pub record AreLaid (g : List Node) (number : ℕ → ℕ) (nodes : List ℕ) (labels : List (Option Label)) (kids : List ℕ) : Type 0 where
   pub labels_are : labels ≡ map (label_of g) nodes
   pub kids_are : kids ≡ flat_map (numbered_kids g number) nodes
 
-pub laid_whole : (g : List Node) (number : ℕ → ℕ) (nodes : List ℕ) (k : ℕ) (labels : List (Option Label)) (kids : List ℕ) → length nodes ≤ k →
-    labels ≡ map (label_of g) (take k nodes) → kids ≡ flat_map (numbered_kids g number) (take k nodes) → AreLaid g number nodes labels kids
-laid_whole g number nodes k labels kids over ls ks =
-    let all : take k nodes ≡ nodes = take_all k nodes over in
-    record { labels_are = ls ∙ ap (map (label_of g)) all; kids_are = ks ∙ ap (flat_map (numbered_kids g number)) all }
+module _ (g : List Node) (number : ℕ → ℕ) where
+  -- one node more
+  pub laid_push : (nodes : List ℕ) (n : ℕ) (labels more : List (Option Label)) (kids less : List ℕ) → AreLaid g number nodes labels kids → more ≡ labels ++ label_of g n ∷ [] → less ≡ kids ++ numbered_kids g number n →
+      AreLaid g number (nodes ++ n ∷ []) more less
+  laid_push nodes n labels more kids less is ls ks =
+      let f : ℕ → List ℕ = numbered_kids g number in
+      record {
+        labels_are = ls ∙ ap (λ (xs : List (Option Label)). xs ++ label_of g n ∷ []) is.labels_are ∙ sym (map-append (label_of g) nodes (n ∷ []));
+        kids_are = ks ∙ ap (λ xs. xs ++ f n) is.kids_are ∙ sym (flat_map-append f nodes (n ∷ []) ∙ ap (λ xs. flat_map f nodes ++ xs) (append-nil (f n)));
+      }
+
+  -- one node more of a list
+  pub laid_more : (nodes : List ℕ) (k n : ℕ) (labels more : List (Option Label)) (kids less : List ℕ) → slice_get nodes k ≡ Some n → AreLaid g number (take k nodes) labels kids →
+      more ≡ labels ++ label_of g n ∷ [] → less ≡ kids ++ numbered_kids g number n → AreLaid g number (take (k + 1) nodes) more less
+  laid_more nodes k n labels more kids less get is ls ks =
+      let one : take (k + 1) nodes ≡ take k nodes ++ n ∷ [] = take_more nodes k 0 (slice_get_within nodes k n get) ∙ ap (λ m. take k nodes ++ m ∷ []) (get_or_from_slice_get nodes k n 0 get) in
+      subst (λ (ns : List ℕ). AreLaid g number ns more less) (sym one) (laid_push (take k nodes) n labels more kids less is ls ks)
+
+  -- all nodes of a list
+  pub laid_all : (nodes : List ℕ) (k : ℕ) (labels : List (Option Label)) (kids : List ℕ) → length nodes ≤ k → AreLaid g number (take k nodes) labels kids → AreLaid g number nodes labels kids
+  laid_all nodes k labels kids over is = subst (λ (ns : List ℕ). AreLaid g number ns labels kids) (take_all k nodes over) is
 
 module _ (g : List Node) (number : ℕ → ℕ) (nodes : List ℕ) (labels : List (Option Label)) (kids : List ℕ) (is : AreLaid g number nodes labels kids) where
   pub laid_size : IsGraph g → All (λ n. n < length g) nodes → length kids ≡ kid_count labels
