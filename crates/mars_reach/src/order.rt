@@ -1,5 +1,5 @@
 //! Numbers in the order in which they were met: a queue in which each number stands once and is found at once.
-ghost use Rattle.std.specs.Prelude.{◌≡◌, ◌<◌, [], length, slice_get, Some, OnOk, Contains, map, All, IfOk};
+ghost use Rattle.std.specs.Prelude.{◌≡◌, ◌<◌, [], length, slice_get, Some, OnOk, OnErr, Contains};
 ghost use Rattle.mars_reach.specs.Order.{with_number, met_after, place_in, AreDistinct};
 
 use indexmap::IndexSet;
@@ -31,16 +31,17 @@ impl Order {
         }
     }
 
-    /// Puts a new number last.
+    /// Puts a number last, unless it was met before.
     pub fn meet(&mut self, number: usize) -> Result<(), NoMemory>
-        ensures { OnOk result (self.new ≡ with_number self.old number) }
+        ensures ok { OnOk result (self.new ≡ with_number self.old number) }
+        ensures err { OnErr result (self.new ≡ self.old) }
     {
         self.met.insert(number)?;
         Ok(())
     }
 
-    /// Meets each number of a list.
-    pub fn meet_all(&mut self, numbers: &[usize]) -> Result<(), NoMemory>
+    /// Meets each number of a list. After want of memory some of them may be met.
+    pub(crate) fn meet_all(&mut self, numbers: &[usize]) -> Result<(), NoMemory>
         ensures { OnOk result (self.new ≡ met_after self.old numbers.now) }
     {
         for number in numbers {
