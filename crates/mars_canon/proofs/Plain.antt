@@ -1,5 +1,5 @@
 -- Graphs whose labels are all there.
-use Rattle.std.proofs.Common.{◌≡◌, ◌≢◌, ℕ, ◌<◌, ◌≤◌, List, [], ◌∷◌, Bool, true, false, Some, None, length, map, drop, get_or, nat_eq, refl, sym, subst, ap, ◌∙◌, arith}
+use Rattle.std.proofs.Common.{◌≡◌, ◌≢◌, ℕ, ◌<◌, ◌≤◌, List, [], ◌∷◌, Bool, true, false, Option, Some, None, length, map, drop, get_or, nat_eq, refl, sym, subst, ap, ◌∙◌, arith}
 use Rattle.std.specs.Bool.{Decides}
 use Rattle.std.specs.List.{filter_map}
 use Rattle.std.specs.Cmp.Lexicographic.{pointwise, pointwise_decides, bytes_decides}
@@ -15,6 +15,7 @@ use Rattle.mars_tree.specs.EqualityLaws.{label_decides}
 use Rattle.mars_tree.proofs.Laid.{seen-length, seen-label, seen-arity, laid_graph}
 use Rattle.mars_tree.proofs.Equal.{all_kids-nodes}
 use Rattle.mars_tree.proofs.Unique.{roots_in}
+use Rattle.mars_canon.specs.Canon.{IsCanon}
 use Rattle.mars_canon.specs.Tree.{IsTree, most_nodes}
 
 is_ground : (ls : List Label) (kids : List ℕ) → IsGround (nodes_of (map Some ls) kids)
@@ -69,3 +70,10 @@ module _ (ls ls' : List Label) (kids kids' : List ℕ) (g h : List Node) (size :
     λ t. cc,
     λ t. e ∙ (pointwise_decides label_decides ls ls').1 (seen_labels t),
   )
+
+pub remade : (h : List Node) (ls : List (Option Label)) (kids : List ℕ) (plain : List Label) (numbers : List ℕ) (g : List Node) → h ≡ nodes_of ls kids → ls ≡ map Some plain → kids ≡ numbers → nodes_of (map Some plain) numbers ≡ g → h ≡ g
+remade h ls kids plain numbers g made labels all view = made ∙ ap (λ (xs : List (Option Label)). nodes_of xs kids) labels ∙ ap (nodes_of (map Some plain)) all ∙ view
+
+-- the canonical graph of a tree
+pub canon_of_tree : (g h : List Node) (roots : List ℕ) → IsTree g → h ≡ g → roots ≡ 0 ∷ [] → IsCanon (record { nodes = h; roots = roots })
+canon_of_tree g h roots is e f = rw (e, f) (record { graph = is.graph; canonical = is.canonical; roots_in = roots_in g (0 ∷ []) is.canonical })

@@ -1,5 +1,5 @@
 -- What stands in the fields of `Canon`.
-use Rattle.mars_canon.specs.declared.canon.Canon.TheInside.{Inside}
+use Rattle.mars_canon.specs.declared.rooted.Canon.TheInside.{Inside}
 use Rattle.mars_canon.specs.Canon.{Rooted, IsCanon}
 
 abbrev pub rooted_of : Inside → Rooted

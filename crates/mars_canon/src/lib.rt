@@ -1,13 +1,13 @@
 //! The one form of rational trees: canonical graphs with their roots, and trees.
 #![tactic(auto)]
 
-mod canon;
 mod laws;
+mod rooted;
 mod tree;
 
-pub use canon::Canon;
 pub use laws::{
     alike_walks_hash_alike, examples, one_form_of_trees, one_form_of_walks, one_tree,
     same_tree_hashes_alike, same_trees_hash_alike,
 };
+pub use rooted::Canon;
 pub use tree::{MOST_NODES, Tree};

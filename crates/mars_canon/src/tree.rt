@@ -1,13 +1,13 @@
 //! Trees: ground canonical graphs with one root, in flat vectors.
-ghost use Rattle.std.specs.Prelude.{◌≡◌, ◌<◌, ◌≤◌, ◌^◌, ◌↔◌, ◌++◌, ◌∷◌, [], IsTrue, length, slice_get, Some, IfOk, OnOk, IfSome, All};
+ghost use Rattle.std.specs.Prelude.{◌≡◌, ◌<◌, ◌≤◌, ◌^◌, ◌↔◌, ◌++◌, ◌∷◌, [], IsTrue, length, slice_get, Some, IfOk, OnOk, IfSome, All, map};
 ghost use Rattle.std.specs.Option.{SomeIff};
 ghost use Rattle.mars_tree.specs.Graph.{label_of, kids_of};
 ghost use Rattle.mars_tree.specs.Equality.{all_kids};
 ghost use Rattle.mars_canon.specs.Tree.{IsTree, FitsTree};
 
-use crate::canon::Canon;
+use crate::rooted::Canon;
 use mars_base::NoMemory;
-use mars_tree::Label;
+use mars_tree::{Graph, Label};
 use std::alloc::Global;
 use std::hash::{Hash, Hasher};
 use std::marker::Model;
@@ -65,6 +65,17 @@ impl Tree {
         })
     }
 
+    /// The canonical graph of the tree, with the one root 0. The error is want of memory alone.
+    pub fn canon(&self) -> Result<Canon, NoMemory>
+        ensures { IfOk result (λ canon. canon ≡ record { nodes = self.now; roots = 0 ∷ [] }) }
+    {
+        let alloc = *self.labels.allocator();
+        let labels = labels_there(alloc, &self.labels)?;
+        let kids = widened(alloc, &self.kids)?;
+        let graph = Graph::from_lists(alloc, labels, kids)?;
+        Ok(Canon::new(graph, vec![in alloc; 0]?))
+    }
+
     /// How many nodes there are.
     pub fn len(&self) -> usize
         ensures len { result ≡ length self.now }
@@ -113,6 +124,25 @@ fn count_kids(canon: &Canon) -> Option<usize>
         return None;
     }
     Some(count)
+}
+
+/// Labels as those of nodes that are no free leaves.
+fn labels_there(alloc: Global, labels: &[Label]) -> Result<Vec<Option<Label>>, NoMemory>
+    ensures { IfOk result (λ all. all.items ≡ map Some labels.now) }
+{
+    Ok(labels.iter().map(|label| Some(*label)).collect(alloc)?)
+}
+
+/// The same numbers, each in 8 bytes.
+fn widened(alloc: Global, numbers: &[u16]) -> Result<Vec<usize>, NoMemory>
+    ensures { IfOk result (λ all. all.items ≡ numbers.now) }
+{
+    Ok(
+        numbers
+            .iter()
+            .map(|number| *number as usize)
+            .collect(alloc)?,
+    )
 }
 
 /// Puts kids behind others.

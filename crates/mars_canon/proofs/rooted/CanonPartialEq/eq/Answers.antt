@@ -1,7 +1,7 @@
 use Rattle.std.proofs.Common.{subst, sym, ap}
 use Rattle.mars_canon.specs.Canon.{Rooted, IsCanon}
 use Rattle.mars_canon.proofs.Forms.{walks_decided, trees_decided, decided_by_roots, decided_by_nodes}
-use Rattle.mars_canon.proofs.canon.CanonPartialEq.eq.Goals as goal
+use Rattle.mars_canon.proofs.rooted.CanonPartialEq.eq.Goals as goal
 
 pub returns-then-eq-clause-same : goal.returns-then-eq-clause-same
 returns-then-eq-clause-same c =

@@ -1,6 +1,6 @@
 use Rattle.std.proofs.Common.{◌≡◌, ◌<◌, ℕ, None}
 use Rattle.mars_tree.specs.Graph.{label_of}
-use Rattle.mars_canon.proofs.canon.Canon.ground.Given as goal
+use Rattle.mars_canon.proofs.rooted.Canon.ground.Given as goal
 
 abbrev pub invariant-loop-node : goal.invariant-loop-node
 invariant-loop-node l = (k : ℕ) → k < l.node → label_of l.self.nodes k ≡ None → ⊥

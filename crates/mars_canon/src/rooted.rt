@@ -28,6 +28,16 @@ impl Model for Canon {
 }
 
 impl Canon {
+    /// Puts a canonical graph and its roots together.
+    pub(crate) fn new(graph: Graph, roots: Vec<usize>) -> Canon
+        requires graph { IsGraph graph }
+        requires canonical { IsCanonical graph roots.items }
+        requires roots_in { All (λ root. root < length graph) roots.items }
+        ensures { result ≡ record { nodes = graph; roots = roots.items } }
+    {
+        Canon { graph, roots }
+    }
+
     /// How many nodes there are.
     pub fn len(&self) -> usize
         ensures len { result ≡ length self.now.nodes }
