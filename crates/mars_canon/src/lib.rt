@@ -1,6 +1,7 @@
 //! The one form of rational trees: canonical graphs with their roots, and trees.
 #![tactic(auto)]
 
+mod canonical;
 mod laws;
 mod rooted;
 mod tree;

@@ -3,6 +3,7 @@ ghost use Rattle.std.specs.Prelude.{◌≡◌, ◌<◌, ◌↔◌, IsTrue, lengt
 ghost use Rattle.mars_tree.specs.Graph.{IsGraph, IsGround, label_of, kids_of};
 ghost use Rattle.mars_tree.specs.Canonical.{IsCanonical};
 
+use mars_reach::Roots;
 use mars_tree::{Graph, Label};
 use std::hash::{Hash, Hasher};
 use std::marker::Model;
@@ -12,7 +13,7 @@ use std::marker::Model;
 #[derive(Drop)]
 pub struct Canon {
     graph: Graph,
-    roots: Vec<usize>,
+    roots: Roots,
 }
 
 impl Model for Canon {
@@ -29,11 +30,11 @@ impl Model for Canon {
 
 impl Canon {
     /// Puts a canonical graph and its roots together.
-    pub(crate) fn new(graph: Graph, roots: Vec<usize>) -> Canon
+    pub(crate) fn new(graph: Graph, roots: Roots) -> Canon
         requires graph { IsGraph graph }
-        requires canonical { IsCanonical graph roots.items }
-        requires roots_in { All (λ root. root < length graph) roots.items }
-        ensures { result ≡ record { nodes = graph; roots = roots.items } }
+        requires canonical { IsCanonical graph roots }
+        requires roots_in { All (λ root. root < length graph) roots }
+        ensures { result ≡ record { nodes = graph; roots = roots } }
     {
         Canon { graph, roots }
     }
@@ -54,7 +55,7 @@ impl Canon {
         ensures roots { result.now ≡ self.now.roots }
         ensures in_range { All (λ root. root < length self.now.nodes) result.now }
     {
-        &self.roots
+        self.roots.as_slice()
     }
 
     /// The label of a node, `None` exactly for a free leaf.
@@ -121,7 +122,7 @@ impl PartialEq for Canon {
         ensures walks { IsTrue result ↔ AreAlike self.now other.now }
         ensures trees { IsTrue result ↔ HaveSameTrees self.now other.now }
     {
-        self.graph == other.graph && self.roots == other.roots
+        self.graph == other.graph && self.roots.as_slice() == other.roots.as_slice()
     }
 }
 
@@ -142,6 +143,6 @@ impl Hash for Canon {
     /// Hashes the nodes, and then the roots.
     fn hash<H: Hasher>(&self, state: &mut H) {
         self.graph.hash(state);
-        self.roots.hash(state);
+        self.roots.as_slice().hash(state);
     }
 }

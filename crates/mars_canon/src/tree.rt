@@ -7,6 +7,7 @@ ghost use Rattle.mars_canon.specs.Tree.{IsTree, FitsTree};
 
 use crate::rooted::Canon;
 use mars_base::NoMemory;
+use mars_reach::Roots;
 use mars_tree::{Graph, Label};
 use std::alloc::Global;
 use std::hash::{Hash, Hasher};
@@ -73,7 +74,7 @@ impl Tree {
         let labels = labels_there(alloc, &self.labels)?;
         let kids = widened(alloc, &self.kids)?;
         let graph = Graph::from_lists(alloc, labels, kids)?;
-        Ok(Canon::new(graph, vec![in alloc; 0]?))
+        Ok(Canon::new(graph, Roots::from_list(vec![in alloc; 0]?)))
     }
 
     /// How many nodes there are.
