@@ -1,7 +1,8 @@
-//! Measures unification: two cycles, two rows of dots, and small calls that are undone.
+//! Measures unification: two cycles, two rows of dots, two rows of which one is spaced, and small calls that are
+//! undone.
 //!
 //! Without words it unifies each workload once at a small size and writes the answers. With words `KIND SIZE CALLS`,
-//! where KIND is `cycles`, `rows` or `small`, it writes what a pair of nodes costs.
+//! where KIND is `cycles`, `rows`, `spaced` or `small`, it writes what a pair of nodes costs.
 #![tactic(auto)]
 
 mod measure;
@@ -20,7 +21,7 @@ fn main(rt: HostRuntime) -> io::Result<()> {
     let task = read_task(words.next(), words.next(), words.next());
     let alloc = rt.alloc();
     let Some((kind, size, calls)) = task else {
-        for kind in [Kind::Cycles, Kind::Rows, Kind::Small] {
+        for kind in [Kind::Cycles, Kind::Rows, Kind::Spaced, Kind::Small] {
             let (pairs, unified) = answer_of(alloc, kind).map_err(no_memory)?;
             println!(rt; "{kind:?}: {pairs} pairs, {unified:?}")?;
         }
@@ -54,6 +55,7 @@ fn read_task(
     let kind = match kind.as_str() {
         "cycles" => Kind::Cycles,
         "rows" => Kind::Rows,
+        "spaced" => Kind::Spaced,
         "small" => Kind::Small,
         _ => return None,
     };

@@ -31,6 +31,7 @@ const GG: Label = Label::Name {
 pub enum Kind {
     Cycles,
     Rows,
+    Spaced,
     Small,
 }
 
@@ -50,6 +51,7 @@ pub fn make_workload(alloc: Global, kind: Kind, size: usize) -> Result<Workload,
     match kind {
         Kind::Cycles => cycles(alloc, size),
         Kind::Rows => rows(alloc, size),
+        Kind::Spaced => spaced(alloc, size),
         Kind::Small => small(alloc),
     }
 }
@@ -79,6 +81,21 @@ fn rows(alloc: Global, size: usize) -> Result<Workload, NoMemory> {
     let end = store.add(BB, &[])?;
     let left = add_row(&mut store, element, end, size)?;
     let right = add_row(&mut store, element, end, size)?;
+    Ok(Workload {
+        store,
+        left,
+        right,
+        pairs: size,
+    })
+}
+
+/// The same, with a variable between the dots of one row: no two pairs lie on one diagonal of node numbers.
+fn spaced(alloc: Global, size: usize) -> Result<Workload, NoMemory> {
+    let mut store = Store::new(alloc);
+    let element = store.add(AA, &[])?;
+    let end = store.add(BB, &[])?;
+    let left = add_row(&mut store, element, end, size)?;
+    let right = add_spaced_row(&mut store, element, end, size)?;
     Ok(Workload {
         store,
         left,
@@ -142,6 +159,25 @@ fn add_row(
 {
     let mut top = end;
     for _ in 0..count {
+        top = store.add(Label::Dot, &[element, top])?;
+    }
+    Ok(top)
+}
+
+fn add_spaced_row(
+    store: &mut Store,
+    element: NodeId,
+    end: NodeId,
+    count: usize,
+) -> Result<NodeId, NoMemory>
+    requires element_in { element < length store.old.nodes }
+    requires end_in { end < length store.old.nodes }
+    ensures top { IfOk result (λ top. top < length store.new.nodes) }
+    ensures more { length store.old.nodes ≤ length store.new.nodes }
+{
+    let mut top = end;
+    for _ in 0..count {
+        store.add_free()?;
         top = store.add(Label::Dot, &[element, top])?;
     }
     Ok(top)

@@ -1,4 +1,6 @@
 //! Numbers of nodes.
+ghost use Rattle.std.specs.Prelude.{◌≡◌};
+
 use std::marker::Model;
 
 /// A node of a store: its number, counted from 0 in the order of adding. The default is number 0.
@@ -13,4 +15,13 @@ impl Model for NodeId {
     ghost view = { λ node. node.0 };
 
     ghost inverse = { λ n. record { 0 = n } };
+}
+
+impl NodeId {
+    /// How many nodes were added before it.
+    pub fn number(self) -> usize
+        ensures { result ≡ self }
+    {
+        self.0
+    }
 }

@@ -1,3 +1,4 @@
+pub mod Blocks
 pub mod Implied
 pub mod Kids
 pub mod Lists

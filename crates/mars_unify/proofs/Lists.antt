@@ -1,10 +1,7 @@
 -- Lists of pairs, each once, and the sets in which they are found.
-use Rattle.std.proofs.Common.{◌≡◌, ℕ, ◌+◌, ◌*◌, ◌/◌, ◌%◌, ◌<◌, ◌≤◌, Bool, true, false, cond, eqb, ◌&&◌, ◌||◌, List, [], ◌∷◌, ◌++◌, length, map, take, All, Contains, refl, sym, ap, ap₂, ◌∙◌, arith, inl, inr, length-append}
+use Rattle.std.proofs.Common.{◌≡◌, ℕ, ◌+◌, ◌*◌, ◌/◌, ◌%◌, ◌<◌, ◌≤◌, Bool, true, false, eqb, ◌&&◌, ◌||◌, List, [], ◌∷◌, ◌++◌, length, map, take, All, Contains, refl, sym, ap, ap₂, ◌∙◌, arith, inl, inr, length-append}
 use Rattle.std.specs.Cmp.{IsEquivalence}
 use Rattle.std.specs.List.{list_any, AllByRecursion, IsDistinct}
-use Rattle.std.specs.HashSet.{HashSet, contains}
-use Rattle.std.specs.declared.hash.FoldHasher.{FoldHasher}
-use Rattle.std.specs.declared.hash.BuildHasherDefault.{BuildHasherDefault}
 use Rattle.std.proofs.lemmas.Bool.{cases_Bool, false≢true, eq-eqb, ne_eqb, eqb-true, and_parts, and_from}
 use Rattle.std.proofs.lemmas.Cmp.{nat_eq_equiv}
 use Rattle.std.proofs.lemmas.List.{take-append-le, take_all, take-take, length-map}
@@ -14,15 +11,15 @@ use Rattle.std.proofs.lemmas.Map.Keys.{IsDistinct-push}
 use Rattle.std.proofs.lemmas.Map.Steps.{length-le_from_distinct_below}
 use Rattle.std.proofs.lemmas.Map.Views.{Contains-from_any}
 use Rattle.std.proofs.lemmas.Nat.{mul-add-lt, mod-mul-add, div-mul-add}
-use Rattle.mars_unify.specs.Met.{same_pair, with_pair, IsIndex}
+use Rattle.mars_unify.specs.Met.{same_pair, with_pair, Words, IsPair, is_set, IsIndex}
 
-same_pair-sym : (p q : ℕ × ℕ) → same_pair p q ≡ same_pair q p
+pub same_pair-sym : (p q : ℕ × ℕ) → same_pair p q ≡ same_pair q p
 same_pair-sym p q = ap₂ (λ a b. a && b) (nat_eq_equiv.symm p.0 q.0) (nat_eq_equiv.symm p.1 q.1)
 
-same_pair-refl : (p : ℕ × ℕ) → same_pair p p ≡ true
+pub same_pair-refl : (p : ℕ × ℕ) → same_pair p p ≡ true
 same_pair-refl p = and_from (eqb p.0 p.0) (eqb p.1 p.1) (eq-eqb p.0 p.0 refl) (eq-eqb p.1 p.1 refl)
 
-same_pair-true : (p q : ℕ × ℕ) → same_pair p q ≡ true → p ≡ q
+pub same_pair-true : (p q : ℕ × ℕ) → same_pair p q ≡ true → p ≡ q
 same_pair-true p q h =
     let both = and_parts (eqb p.0 q.0) (eqb p.1 q.1) h in
     ap₂ (λ a b. (a, b)) (eqb-true p.0 q.0 both.0) (eqb-true p.1 q.1 both.1)
@@ -34,18 +31,18 @@ same_pair-equivalence = record {
   congr = λ p q r h. ap (λ x. same_pair x r) (same_pair-true p q h);
 }
 
-at-end : (a b : Bool) → cond a true b ≡ (b || (a || false))
+at-end : (a b : Bool) → (a || b) ≡ (b || (a || false))
 at-end true true = refl
 at-end true false = refl
 at-end false true = refl
 at-end false false = refl
 
--- a set with one pair more
-pub index-push : (old new : HashSet (ℕ × ℕ) (BuildHasherDefault FoldHasher)) (pairs : List (ℕ × ℕ)) (pair : ℕ × ℕ) → IsIndex old pairs
-    → ((q : ℕ × ℕ) → contains same_pair new q ≡ cond (same_pair pair q) true (contains same_pair old q)) → IsIndex new (pairs ++ pair ∷ [])
+-- the bits, with one pair's more
+pub index-push : (old new : Words) (pairs : List (ℕ × ℕ)) (pair : ℕ × ℕ) → IsIndex old pairs
+    → ((q : ℕ × ℕ) → IsPair q → is_set new q ≡ (same_pair q pair || is_set old q)) → IsIndex new (pairs ++ pair ∷ [])
 index-push old new pairs pair is step = record {
-  has = λ q.
-      step q ∙ ap₂ (λ a b. cond a true b) (same_pair-sym pair q) (is.has q) ∙ at-end (same_pair q pair) (list_any (same_pair q) pairs)
+  has = λ q h.
+      step q h ∙ ap (λ b. same_pair q pair || b) (is.has q h) ∙ at-end (same_pair q pair) (list_any (same_pair q) pairs)
       ∙ sym (list_any-append (same_pair q) pairs (pair ∷ []));
 }
 

@@ -1,6 +1,7 @@
 //! Unification over rational trees, without occurs check.
 #![tactic(auto)]
 
+mod bits;
 mod pairs;
 mod unification;
 

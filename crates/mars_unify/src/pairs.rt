@@ -2,14 +2,15 @@
 ghost use Rattle.std.specs.Prelude.{◌≡◌, ℕ, ◌<◌, ◌≤◌, ◌++◌, ◌∷◌, [], length, slice_index_or, OnOk, OnErr, IfOk};
 ghost use Rattle.mars_unify.specs.Met.{with_pair, IsIndex};
 
+use crate::bits::{Words, set_bit};
 use mars_base::NoMemory;
 use mars_store::NodeId;
 use smallvec::SmallVec;
 use std::alloc::Global;
-use std::collections::HashSet;
+use std::collections::HashMap;
 use std::marker::Model;
 
-/// A pair is found among so few by a look at each, and among more by its hash.
+/// A pair is found among so few by a look at each, and among more by its bit.
 const FEW: usize = 8;
 
 /// Pairs in the order in which they were met.
@@ -17,7 +18,7 @@ const FEW: usize = 8;
 pub(crate) struct Pairs {
     alloc: Global,
     list: SmallVec<(NodeId, NodeId), FEW>,
-    index: HashSet<(NodeId, NodeId)>,
+    index: Words,
 }
 
 impl Model for Pairs {
@@ -40,7 +41,7 @@ impl Pairs {
         Pairs {
             alloc,
             list: SmallVec::new(alloc),
-            index: HashSet::new(alloc),
+            index: HashMap::new(alloc),
         }
     }
 
@@ -103,32 +104,32 @@ impl Pairs {
     {
         self.list.reserve(1)?;
         let (x, y) = pair;
-        if self.index.insert((x, y))? {
+        if set_bit(&mut self.index, (x, y))? {
             self.list.push_reserved((x, y));
         }
         Ok(())
     }
 }
 
-/// The set of some pairs, and of one more.
+/// The bits of some pairs, and of one more.
 fn index_of(
     alloc: Global,
     pairs: &[(NodeId, NodeId)],
     pair: (NodeId, NodeId),
-) -> Result<HashSet<(NodeId, NodeId)>, NoMemory>
+) -> Result<Words, NoMemory>
     ensures { IfOk result (λ index. IsIndex index (pairs.now ++ pair ∷ [])) }
 {
-    let mut index = set_of(alloc, pairs)?;
-    index.insert(pair)?;
+    let mut index = bits_of(alloc, pairs)?;
+    set_bit(&mut index, pair)?;
     Ok(index)
 }
 
-fn set_of(alloc: Global, pairs: &[(NodeId, NodeId)]) -> Result<HashSet<(NodeId, NodeId)>, NoMemory>
+fn bits_of(alloc: Global, pairs: &[(NodeId, NodeId)]) -> Result<Words, NoMemory>
     ensures { IfOk result (λ index. IsIndex index pairs.now) }
 {
-    let mut index = HashSet::new(alloc);
+    let mut index = HashMap::new(alloc);
     for pair in pairs {
-        index.insert(*pair)?;
+        set_bit(&mut index, *pair)?;
     }
     Ok(index)
 }
