@@ -50,6 +50,14 @@ impl Canon {
         self.graph.len()
     }
 
+    /// The nodes as a graph.
+    pub fn graph(&self) -> &Graph
+        ensures nodes { result.now ≡ self.now.nodes }
+        ensures graph { IsGraph result.now }
+    {
+        &self.graph
+    }
+
     /// The nodes that stand for the trees, in order.
     pub fn roots(&self) -> &[usize]
         ensures roots { result.now ≡ self.now.roots }

@@ -52,6 +52,11 @@ list_from_gets (x ∷ xs) (y ∷ ys) e each = ap (λ z. z ∷ xs) (each 0 x y re
 list_from_gets [] (y ∷ ys) e each = absurd (omega arith)
 list_from_gets (x ∷ xs) [] e each = absurd (omega arith)
 
+-- functions that agree on a list map it alike
+pub map_like : {X : Type 0} (f h : ℕ → X) (xs : List ℕ) → ((k x : ℕ) → slice_get xs k ≡ Some x → f x ≡ h x) → map f xs ≡ map h xs
+map_like f h [] each = refl
+map_like f h (x ∷ xs) each = ap (λ y. y ∷ map f xs) (each 0 x refl) ∙ ap (λ ys. h x ∷ ys) (map_like f h xs (λ k. each (suc k)))
+
 pub map_get : (f : ℕ → ℕ) (xs : List ℕ) (k y : ℕ) → slice_get (map f xs) k ≡ Some y → (x : ℕ) × (slice_get xs k ≡ Some x) × (f x ≡ y)
 map_get f xs k y e = option_map_some f (slice_get xs k) y (sym (slice_get-map f xs k) ∙ e)
 

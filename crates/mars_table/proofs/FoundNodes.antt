@@ -5,7 +5,8 @@ use Rattle.mars_tree.proofs.Paths.{label_from_stands}
 use Rattle.std.proofs.lemmas.Option.{same_Some}
 use Rattle.mars_table.specs.Finding.{find_row}
 use Rattle.mars_table.specs.Rows.{HasRow, IsTree}
-use Rattle.mars_table.specs.TableInside.{rows_of, AreApart}
+use Rattle.mars_reach.specs.Part.{AreApart}
+use Rattle.mars_table.specs.TableInside.{rows_of}
 use Rattle.mars_table.proofs.Found.{find_means}
 use Rattle.mars_table.proofs.Added.{none_or_some}
 use Rattle.mars_table.proofs.Stored.{closed_stored, apart_stored, tree_stored, has_stored, stored_in}

@@ -12,13 +12,14 @@ use Rattle.mars_tree.proofs.Paths.{kid_in, label_in}
 use Rattle.mars_table.specs.Finding.{find_row}
 use Rattle.mars_table.specs.Fresh.{fresh_nodes}
 use Rattle.mars_table.specs.Object.{fresh_before, number_of, fresh_row}
-use Rattle.mars_table.specs.Order.{moved, renumbered, at_places}
+use Rattle.mars_reach.specs.Order.{moved, renumbered}
+use Rattle.mars_table.specs.Renumber.{at_places}
 use Rattle.mars_table.specs.Renumber.{HasLabels, KidsFit}
 use Rattle.mars_table.specs.Rows.{Row}
 use Rattle.mars_table.specs.TableInside.{as_row, rows_from}
 use Rattle.mars_table.proofs.Added.{none_or_some}
-use Rattle.mars_table.proofs.Numbers.{All-from_gets}
-use Rattle.mars_table.proofs.Parts.{map_like}
+use Rattle.mars_reach.proofs.Numbers.{All-from_gets}
+use Rattle.mars_table.proofs.Added.{map_like}
 
 -- one more number
 pub range_more : (a n : ℕ) → range_with_len a (n + 1) ≡ range_with_len a n ++ (a + n) ∷ []

@@ -8,7 +8,8 @@ use Rattle.mars_table.specs.Finding.{find_row}
 use Rattle.mars_tree.specs.Graph.{Node, IsGraph, IsGround}
 use Rattle.mars_table.specs.Rows.{Row, HasRow, SameRow}
 use Rattle.mars_table.specs.Object.{number_of, fresh_before, fresh_rows}
-use Rattle.mars_table.specs.TableInside.{as_row, rows_from, rows_of, AreApart}
+use Rattle.mars_reach.specs.Part.{AreApart}
+use Rattle.mars_table.specs.TableInside.{as_row, rows_from, rows_of}
 use Rattle.mars_table.specs.TableLaws.{InternsTrees}
 use Rattle.mars_table.specs.TreeGraph.{IsTreeGraph}
 use Rattle.mars_table.proofs.Added.{intern_means}

@@ -1,16 +1,11 @@
 pub mod Added
 pub mod Distinct
 pub mod Found
+pub mod FromCanon
 pub mod FoundNodes
 pub mod FreshRows
 pub mod Grown
-pub mod Least
-pub mod Numbers
-pub mod Ordering
-pub mod Parts
 pub mod Pinned
-pub mod Quotient
-pub mod Reached
 pub mod Renumbering
 pub mod RowFacts
 pub mod StaysSound

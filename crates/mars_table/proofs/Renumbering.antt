@@ -1,14 +1,23 @@
 -- Nodes that are added one by one, first their labels and then their kids.
-use Rattle.std.proofs.Common.{◌≡◌, ℕ, suc, ◌<◌, ◌≤◌, ◌+◌, ◌-◌, List, [], ◌∷◌, ◌++◌, length, map, get_or, set, take, drop, Option, Some, slice_get, sym, subst, ap, ◌∙◌, arith, inl, inr, append_assoc, length-append, get_or-set_same}
+use Rattle.std.proofs.Common.{◌≡◌, ◌⊎◌, ℕ, zero, suc, ◌<◌, ◌≤◌, ◌+◌, ◌-◌, List, [], ◌∷◌, ◌++◌, length, map, get_or, set, take, drop, Option, Some, slice_get, refl, sym, subst, ap, ◌∙◌, arith, inl, inr, append_assoc, length-append, get_or-set_same}
 use Rattle.std.proofs.Math.ListN.{get_or-append}
 use Rattle.std.proofs.Math.Seq.{set-append_seam, get_or-append_seam, drop-cons}
 use Rattle.std.proofs.lemmas.List.{take_more, take-append-le, length-take-le, length-map, map-append, set-set}
-use Rattle.std.proofs.lemmas.Option.{slice_get_within, get_or_from_slice_get}
+use Rattle.std.proofs.lemmas.Option.{same_Some, slice_get_within, get_or_from_slice_get}
 use Rattle.mars_tree.specs.declared.label.Label.{Label}
 use Rattle.mars_tree.specs.Graph.{Node, label_of, kids_of, labelled, with_kid, free_leaf}
-use Rattle.mars_table.specs.Order.{moved, renumbered}
+use Rattle.mars_reach.specs.Order.{moved, renumbered}
 use Rattle.mars_table.specs.Renumber.{WithLabels}
-use Rattle.mars_table.proofs.Numbers.{pushed_get}
+
+-- an element of a list with one more is old, or the last
+pub pushed_get : (xs : List ℕ) (x i y : ℕ) → slice_get (xs ++ x ∷ []) i ≡ Some y → (slice_get xs i ≡ Some y) ⊎ ((i ≡ length xs) × (x ≡ y))
+pushed_get [] x zero y e = inr (refl, same_Some x y e)
+pushed_get [] x (suc i) y e = cc
+pushed_get (z ∷ xs) x zero y e = inl e
+pushed_get (z ∷ xs) x (suc i) y e = elim (pushed_get xs x i y e) [
+  | inl w ↦ inl w
+  | inr w ↦ inr (ap suc w.0, w.1)
+]
 
 -- one more of a list
 pub take_one_more : (xs : List ℕ) (k x : ℕ) → slice_get xs k ≡ Some x → take (k + 1) xs ≡ take k xs ++ x ∷ []

@@ -9,7 +9,7 @@ use Rattle.mars_tree.proofs.Paths.{label_in}
 use Rattle.mars_tree.proofs.Unique.{one_from_same_roots}
 use Rattle.mars_table.specs.Fresh.{fresh_nodes}
 use Rattle.mars_table.specs.Object.{TableObject, intern, kept, full, fresh_before, fresh_rows, number_of}
-use Rattle.mars_table.specs.Order.{moved, renumbered}
+use Rattle.mars_reach.specs.Order.{moved, renumbered}
 use Rattle.mars_table.specs.Rows.{Row, HasRow, tree_of}
 use Rattle.mars_table.specs.Sound.{IsSound}
 use Rattle.mars_table.specs.SoundLaws.{table_after, InternKeepsSound, InternsToLasts, NumbersAgree, OneAnswer}
@@ -19,7 +19,7 @@ use Rattle.mars_table.proofs.Added.{old_has, intern_means}
 use Rattle.mars_table.proofs.Distinct.{numbers, distinct-append}
 use Rattle.mars_table.proofs.FreshRows.{rows_fresh, fresh_in_range, length-fresh}
 use Rattle.mars_table.proofs.Grown.{tree_some}
-use Rattle.mars_table.proofs.Numbers.{All-from_gets, All-slice_get}
+use Rattle.mars_reach.proofs.Numbers.{All-from_gets, All-slice_get}
 use Rattle.mars_table.proofs.Pinned.{grown, intern_keeps_trees}
 use Rattle.mars_table.proofs.Stored.{All-stored, distinct_stored, length-stored, stored_number}
 

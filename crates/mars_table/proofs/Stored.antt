@@ -14,7 +14,8 @@ use Rattle.mars_tree.proofs.Walks.{same_from_bisimulation}
 use Rattle.mars_table.specs.Rows.{Row, row_at, HasRow, kids_of_row, label_of_row, shown_at_row, tree_of}
 use Rattle.mars_table.specs.Sound.{IsClosed, IsApart, IsSound}
 use Rattle.mars_table.proofs.Distinct.{numbers, apart_from}
-use Rattle.mars_table.specs.TableInside.{as_row, rows_from, rows_of, AreApart}
+use Rattle.mars_reach.specs.Part.{AreApart}
+use Rattle.mars_table.specs.TableInside.{as_row, rows_from, rows_of}
 
 -- a node with a label is a row
 row_is : (number : ℕ) (node : Node) → node.label ≢ None → (l : Label) × (node.label ≡ Some l) × (as_row number node ≡ Some (record { number = number; label = l; kids = node.kids }))

@@ -9,16 +9,18 @@ use Rattle.mars_tree.proofs.Paths.{kid_in, label_in}
 use Rattle.mars_table.specs.Fresh.{fresh_nodes}
 use Rattle.std.proofs.lemmas.Bool.Decides.{nat_tests}
 use Rattle.mars_table.specs.Object.{Interned, kept, full, intern, fresh_before, number_of, fresh_rows}
-use Rattle.mars_table.specs.Order.{moved, renumbered, at_places}
+use Rattle.mars_reach.specs.Order.{moved, renumbered}
+use Rattle.mars_table.specs.Renumber.{at_places}
 use Rattle.mars_table.specs.Renumber.{HasLabels, KidsFit}
 use Rattle.mars_table.specs.Rows.{Row}
-use Rattle.mars_table.specs.TableInside.{rows_from, rows_of, AreApart}
+use Rattle.mars_reach.specs.Part.{AreApart}
+use Rattle.mars_table.specs.TableInside.{rows_from, rows_of}
 use Rattle.mars_table.specs.TreeGraph.{IsTreeGraph}
 use Rattle.mars_table.proofs.FoundNodes.{found_is}
 use Rattle.mars_table.proofs.FreshRows.{at_map, fresh_in_range, number_below, length-fresh, length-range, rows_fresh}
 use Rattle.mars_table.proofs.Grown.{rows_from-append, tree_some}
-use Rattle.mars_table.proofs.Numbers.{All-from_gets, All-slice_get}
-use Rattle.mars_table.proofs.Parts.{map_like}
+use Rattle.mars_reach.proofs.Numbers.{All-from_gets, All-slice_get}
+use Rattle.mars_table.proofs.Added.{map_like}
 
 -- the rows have grown by the fresh rows of the tree
 pub record HasGrown (g tree grown : List Node) : Type 0 where

@@ -1,13 +1,9 @@
-pub mod CanonicalSteps
 pub mod Examples
 pub mod Finding
 pub mod Fresh
 pub mod Lasting
 pub mod Met
 pub mod Object
-pub mod Order
-pub mod OrderInside
-pub mod Reach
 pub mod Renumber
 pub mod Rows
 pub mod Sound

@@ -1,5 +1,5 @@
 -- Steps in which nodes are added under other numbers.
-use Rattle.std.specs.Prelude.{◌≡◌, ◌≢◌, ℕ, ◌+◌, ◌<◌, List, length, take, slice_get, Some, None, All}
+use Rattle.std.specs.Prelude.{◌≡◌, ◌≢◌, ℕ, ◌+◌, ◌<◌, List, length, take, slice_get, slice_index, Some, None, All}
 use Rattle.mars_tree.specs.Graph.{Node, label_of, kids_of}
 
 -- none of the nodes is a free leaf
@@ -16,3 +16,7 @@ pub record WithLabels (old from : List Node) (nodes : List ℕ) (new : List Node
   pub front : take (length old) new ≡ old
   pub labels : (k n : ℕ) → slice_get nodes k ≡ Some n → label_of new (length old + k) ≡ label_of from n
   pub counts : (k n : ℕ) → slice_get nodes k ≡ Some n → length (kids_of new (length old + k)) ≡ length (kids_of from n)
+
+-- the numbers in a vector
+abbrev pub at_places : List ℕ → ℕ → ℕ
+at_places numbers n = slice_index numbers n

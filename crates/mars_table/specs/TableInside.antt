@@ -1,8 +1,9 @@
 -- The table object that a table's fields stand for.
-use Rattle.std.specs.Prelude.{◌≡◌, ℕ, ◌+◌, ◌^◌, ◌<◌, ◌≤◌, List, [], ◌∷◌, length, Option, All}
+use Rattle.std.specs.Prelude.{ℕ, ◌+◌, ◌^◌, ◌<◌, ◌≤◌, List, [], ◌∷◌, length, Option, All}
 use Rattle.std.specs.Option.{option_map}
 use Rattle.std.specs.List.{cons_option}
-use Rattle.mars_tree.specs.Graph.{Node, IsGraph, IsGround, Same}
+use Rattle.mars_tree.specs.Graph.{Node, IsGraph, IsGround}
+use Rattle.mars_reach.specs.Part.{AreApart}
 use Rattle.mars_table.specs.declared.table.Table.TheInside.{Inside}
 use Rattle.mars_table.specs.Rows.{Row}
 use Rattle.mars_table.specs.Object.{TableObject}
@@ -22,10 +23,6 @@ rows_of g = rows_from 0 g
 
 abbrev pub table_of : Inside → TableObject
 table_of p = record { rows = rows_of p.rows; pins = p.pins.items; next = length p.rows; limit = p.cap }
-
--- no two nodes are the same tree
-abbrev pub AreApart : List Node → Type 0
-AreApart g = (i j : ℕ) → i < length g → j < length g → Same g i g j → i ≡ j
 
 -- the nodes are distinct trees without free leaves, as many as the limit allows, and pins name nodes
 pub record IsKept (p : Inside) : Type 0 where

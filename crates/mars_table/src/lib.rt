@@ -1,10 +1,7 @@
 //! The table: each tree once, under a number, with pins of its callers.
 #![tactic(auto)]
 
-mod canonical;
-mod free;
 mod laws;
-mod order;
 mod renumber;
 mod rows;
 mod search;
@@ -12,7 +9,6 @@ mod table;
 #[cfg(test)]
 mod tests;
 
-pub use free::reaches_free;
 pub use laws::{
     examples, find_means, intern_keeps_met, intern_keeps_sound, intern_keeps_trees, intern_means,
     interns_to_lasts, numbers_agree, one_answer, sweep_keeps_met, sweep_keeps_sound, sweep_means,

@@ -1,26 +1,12 @@
 // Nodes under other numbers.
-ghost use Rattle.std.specs.Prelude.{◌≡◌, ◌≢◌, ◌+◌, ◌<◌, ◌++◌, [], ℕ, length, map, take, slice_get, slice_set, Some, None, IfOk, OnOk, All};
+ghost use Rattle.std.specs.Prelude.{◌≡◌, ◌+◌, ◌<◌, ◌++◌, [], ℕ, length, map, take, slice_get, slice_set, Some, None, IfOk, OnOk, All};
 ghost use Rattle.mars_tree.specs.Graph.{kids_of, label_of};
-ghost use Rattle.mars_table.specs.Order.{AreDistinct, at_places, renumbered};
-ghost use Rattle.mars_table.specs.Renumber.{HasLabels, WithLabels, KidsFit};
+ghost use Rattle.mars_reach.specs.Order.{renumbered};
+ghost use Rattle.mars_table.specs.Renumber.{at_places, HasLabels, WithLabels, KidsFit};
 
 use mars_base::NoMemory;
 use mars_tree::Graph;
 use std::alloc::Global;
-
-/// The place of each number of a list, under the number; 0 under the others below `size`.
-pub(crate) fn places(alloc: Global, list: &[usize], size: usize) -> Result<Vec<usize>, NoMemory>
-    requires in_range { All (λ n. n < size) list.now }
-    requires distinct { AreDistinct list.now }
-    ensures size { IfOk result (λ places. length places.items ≡ size) }
-    ensures places { IfOk result (λ places. (k n : ℕ) → slice_get list.now k ≡ Some n → at_places places.items n ≡ k) }
-{
-    let mut places = vec![in alloc; 0; size]?;
-    for k in 0..list.len() {
-        places[list[k]] = k;
-    }
-    Ok(places)
-}
 
 /// Adds a node for each of the list, with its label and with kids that are still to be set.
 fn add_labels(into: &mut Graph, from: &Graph, nodes: &[usize]) -> Result<(), NoMemory>

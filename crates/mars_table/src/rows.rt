@@ -4,8 +4,10 @@ ghost use Rattle.std.specs.List.{range_with_len};
 ghost use Rattle.mars_tree.specs.Graph.{IsGraph, IsGround};
 ghost use Rattle.mars_table.specs.Fresh.{fresh_nodes};
 ghost use Rattle.mars_table.specs.Object.{fresh_before, fresh_rows, number_of};
-ghost use Rattle.mars_table.specs.Order.{at_places, renumbered};
-ghost use Rattle.mars_table.specs.TableInside.{rows_of, AreApart};
+ghost use Rattle.mars_reach.specs.Order.{renumbered};
+ghost use Rattle.mars_table.specs.Renumber.{at_places};
+ghost use Rattle.mars_reach.specs.Part.{AreApart};
+ghost use Rattle.mars_table.specs.TableInside.{rows_of};
 ghost use Rattle.mars_table.specs.TreeGraph.{IsTreeGraph};
 
 use crate::renumber::add_nodes;

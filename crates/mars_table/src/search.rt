@@ -2,7 +2,8 @@
 ghost use Rattle.std.specs.Prelude.{◌≡◌, ◌<◌, ◌↔◌, IsTrue, length, IfOk};
 ghost use Rattle.mars_tree.specs.Graph.{label_of, IsGround, Same};
 ghost use Rattle.mars_table.specs.Finding.{find_row};
-ghost use Rattle.mars_table.specs.TableInside.{rows_of, AreApart};
+ghost use Rattle.mars_reach.specs.Part.{AreApart};
+ghost use Rattle.mars_table.specs.TableInside.{rows_of};
 ghost use Rattle.mars_table.specs.TreeGraph.{IsTreeGraph};
 
 use mars_base::NoMemory;
@@ -18,13 +19,7 @@ fn is_labelled(graph: &Graph, node: usize, label: Option<Label>) -> bool
 }
 
 /// Whether two nodes are the same tree; different labels are told without a walk.
-pub(crate) fn agree(
-    alloc: Global,
-    a: &Graph,
-    n: usize,
-    b: &Graph,
-    m: usize,
-) -> Result<bool, NoMemory>
+fn agree(alloc: Global, a: &Graph, n: usize, b: &Graph, m: usize) -> Result<bool, NoMemory>
     requires n_in { n < length a.now }
     requires m_in { m < length b.now }
     requires a_labels { IsGround a.now }

@@ -2,13 +2,13 @@
 ghost use Rattle.std.specs.Prelude.{◌≡◌, ◌+◌, ◌≤◌, ◌<◌, [], length, IfOk, OnOk, OnErr};
 ghost use Rattle.mars_tree.specs.Graph.{kids_of};
 ghost use Rattle.mars_table.specs.Object.{empty_table, intern, Interned};
-ghost use Rattle.mars_table.specs.Reach.{ReachesNoFree};
+ghost use Rattle.mars_reach.specs.Reach.{ReachesNoFree};
 ghost use Rattle.mars_table.specs.Sound.{IsSound};
 ghost use Rattle.mars_table.specs.TreeGraph.{IsTreeGraph, InternsTo};
 
-use crate::canonical::canonical;
 use crate::rows::grow;
 use mars_base::NoMemory;
+use mars_canon::canon;
 use mars_tree::Graph;
 use std::alloc::Global;
 use std::marker::Model;
@@ -62,8 +62,8 @@ impl Table {
         ensures small { OnOk result (length self.new.rows ≤ length self.old.rows + length graph.now) }
         ensures as_before { OnErr result (self.new ≡ self.old) }
     {
-        let tree = canonical(self.alloc, graph, root)?;
-        self.keep(who, &tree)
+        let tree = canon(self.alloc, graph, &[root])?;
+        self.keep(who, tree.graph())
     }
 
     /// Keeps a tree that is given by its canonical graph.

@@ -1,7 +1,8 @@
 // Worked rows and large lists through the table.
 ghost use Rattle.std.specs.Prelude.{◌≡◌, OnOk};
 
-use crate::{Handle, Table, reaches_free};
+use crate::{Handle, Table};
+use mars_reach::reaches_free;
 use mars_tree::{Graph, Label, NameId};
 use std::alloc::Global;
 use std::process::Abort;

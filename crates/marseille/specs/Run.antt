@@ -5,7 +5,7 @@ use Rattle.mars_tree.specs.declared.label.NameId.{NameId}
 use Rattle.mars_read.specs.declared.first.First.{First}
 use Rattle.mars_read.specs.declared.first.FirstPut.{FirstPut}
 use Rattle.mars_table.specs.Object.{TableObject, empty_table}
-use Rattle.mars_table.specs.Reach.{ReachesFree, ReachesNoFree}
+use Rattle.mars_reach.specs.Reach.{ReachesFree, ReachesNoFree}
 use Rattle.mars_table.specs.TreeGraph.{InternsTo}
 use Rattle.marseille.specs.declared.run.Answer.{Answer}
 use Rattle.marseille.specs.declared.run.Answer.TheVariants.{NameTaken, NotGround, Kept}

@@ -1,7 +1,7 @@
 use Rattle.std.proofs.Common.{◌≡◌, ℕ, ◌<◌, ◌≤◌, ◌+◌, ◌-◌, length, Some, slice_get, get_or, set, map, ap, sym, ◌∙◌, arith}
 use Rattle.std.proofs.lemmas.Option.{slice_get-get_or}
 use Rattle.mars_tree.specs.Graph.{Node, label_of, kids_of}
-use Rattle.mars_table.specs.Order.{at_places}
+use Rattle.mars_table.specs.Renumber.{at_places}
 use Rattle.mars_table.proofs.Renumbering.{next_node, add_more}
 use Rattle.mars_table.proofs.renumber.add_nodes.Goals as goal
 

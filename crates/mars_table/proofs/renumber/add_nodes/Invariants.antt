@@ -1,5 +1,6 @@
 use Rattle.std.proofs.Common.{◌≡◌, ◌++◌, ◌-◌, take, drop}
-use Rattle.mars_table.specs.Order.{at_places, renumbered}
+use Rattle.mars_reach.specs.Order.{renumbered}
+use Rattle.mars_table.specs.Renumber.{at_places}
 use Rattle.mars_table.proofs.renumber.add_nodes.Given as goal
 
 abbrev pub invariant-loop-node : goal.invariant-loop-node

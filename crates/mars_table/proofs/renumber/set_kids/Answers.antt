@@ -1,7 +1,7 @@
 use Rattle.std.proofs.Common.{◌<◌, length, arith}
 use Rattle.std.proofs.lemmas.Option.{slice_get-get_or}
 use Rattle.mars_tree.specs.Graph.{label_of, kids_of}
-use Rattle.mars_table.specs.Order.{at_places}
+use Rattle.mars_table.specs.Renumber.{at_places}
 use Rattle.mars_table.proofs.Renumbering.{set_kids_more}
 use Rattle.mars_table.proofs.renumber.set_kids.Goals as goal
 

@@ -1,6 +1,6 @@
 use Rattle.std.proofs.Common.{◌≡◌, ◌++◌, map, take, drop, slice_set}
 use Rattle.mars_tree.specs.Graph.{label_of, kids_of}
-use Rattle.mars_table.specs.Order.{at_places}
+use Rattle.mars_table.specs.Renumber.{at_places}
 use Rattle.mars_table.proofs.renumber.set_kids.Given as goal
 
 abbrev pub invariant-loop-k : goal.invariant-loop-k

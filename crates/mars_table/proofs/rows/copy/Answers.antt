@@ -1,7 +1,8 @@
 use Rattle.std.proofs.Common.{◌≡◌, ℕ, ◌<◌, ◌+◌, List, length, All, ap, sym, subst, ◌∙◌, arith, ◌++◌}
 use Rattle.std.specs.List.{range_with_len}
 use Rattle.mars_tree.specs.Graph.{Node}
-use Rattle.mars_table.specs.Order.{at_places, renumbered}
+use Rattle.mars_reach.specs.Order.{renumbered}
+use Rattle.mars_table.specs.Renumber.{at_places}
 use Rattle.mars_table.specs.Renumber.{HasLabels, KidsFit}
 use Rattle.mars_table.proofs.FreshRows.{copy_is, copy_in_range, copy_has_labels, copy_kids_fit, length-range}
 use Rattle.mars_table.proofs.rows.copy.Goals as goal

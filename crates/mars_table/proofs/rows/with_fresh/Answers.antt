@@ -1,5 +1,5 @@
 use Rattle.std.proofs.Common.{◌≡◌, ℕ, ◌<◌, ◌+◌, List, length, All, ap, sym, subst, ◌∙◌, arith}
-use Rattle.mars_table.specs.Order.{at_places}
+use Rattle.mars_table.specs.Renumber.{at_places}
 use Rattle.mars_table.specs.Renumber.{HasLabels, KidsFit}
 use Rattle.mars_table.proofs.WithFresh.{fresh_below, fresh_has_labels, numbers_size, fresh_kids_fit}
 use Rattle.mars_table.proofs.rows.with_fresh.Goals as goal
