@@ -13,3 +13,6 @@ pub use laws::{
 };
 pub use rooted::Canon;
 pub use tree::{MOST_NODES, Tree};
+
+#[cfg(test)]
+mod tests;
