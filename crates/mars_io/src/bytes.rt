@@ -1,5 +1,8 @@
 //! Sources in memory.
-ghost use Rattle.std.specs.Prelude.{◌≡◌, ◌<◌, ◌≤◌, [], length, take};
+ghost use Rattle.std.specs.Prelude.{◌≡◌, ◌<◌, ◌≤◌, min, length, take, Some};
+ghost use Rattle.mars_base.specs.Faults.{Rose};
+ghost use Rattle.mars_io.specs.Memory.{Reads, ReadsAll};
+ghost use Rattle.mars_io.specs.Source.{GotAtMost, Gives};
 
 use crate::source::{Source, Taken};
 use mars_base::Faults;
@@ -23,7 +26,7 @@ impl Model for Bytes {
 
     ghost use Rattle.std.specs.Prelude.{drop, ◌<◌, ◌≤◌, vec_len};
 
-    ghost view = { λ s. record { left = drop s.at s.bytes.items; faults = s.faults } };
+    ghost view = { λ s. record { left = drop s.at s.bytes.items; most = s.most; failing = s.failing.items; call = s.calls; faults = s.faults } };
 
     ghost invariant = { λ s. (s.at ≤ vec_len s.bytes) × (0 < s.most) };
 }
@@ -33,7 +36,7 @@ impl Bytes {
     /// are listed in `failing`.
     pub fn new(bytes: Vec<u8>, most: usize, failing: Vec<u64>) -> Bytes
         requires { 0 < most }
-        ensures { result ≡ record { left = bytes.items; faults = 0 } }
+        ensures { result ≡ record { left = bytes.items; most = most; failing = failing.items; call = 0; faults = 0 } }
     {
         Bytes {
             bytes,
@@ -48,11 +51,8 @@ impl Bytes {
 
 /// Copies what comes next, as much as there is room for.
 fn give(bytes: &[u8], most: usize, into: &mut [u8]) -> usize
-    requires most { 0 < most }
-    requires room { 0 < length into.old }
-    ensures bound { (result ≤ length bytes.now) × (result ≤ length into.new) }
+    ensures count { result ≡ min (min (length bytes.now) most) (length into.new) }
     ensures bytes { take result into.new ≡ take result bytes.now }
-    ensures end { result ≡ 0 → bytes.now ≡ [] }
 {
     let count = bytes.len().min(most).min(into.len());
     into[..count].copy_from_slice(&bytes[..count]);
@@ -66,7 +66,15 @@ impl Source for Bytes {
 
     ghost faults = { λ s. s.faults };
 
-    fn read(&mut self, into: &mut [u8]) -> Taken {
+    /// Gives as many bytes as are left, as a read gives at most and as there is room for. Takes no memory.
+    fn read(&mut self, into: &mut [u8]) -> Taken
+        requires { 0 < length into.old }
+        ensures reads { Reads self.old self.new result into.new }
+        ensures bound { GotAtMost result (length into.new) }
+        ensures bytes { Gives (Some self.old.left) (Some self.new.left) result into.new }
+        ensures later { self.old.faults ≤ self.new.faults }
+        ensures cause { result ≡ Taken.Failed → Rose self.old.faults self.new.faults }
+    {
         let call = self.calls;
         self.calls = call.saturating_add(1);
         if self.failing.contains(&call) {
@@ -115,7 +123,13 @@ impl Source for NeverFails {
 
     ghost faults = { λ s. 0 };
 
-    fn read(&mut self, into: &mut [u8]) -> Taken {
+    /// Gives as many bytes as are left and as there is room for. Takes no memory.
+    fn read(&mut self, into: &mut [u8]) -> Taken
+        requires { 0 < length into.old }
+        ensures reads { ReadsAll self.old self.new result into.new }
+        ensures bound { GotAtMost result (length into.new) }
+        ensures bytes { Gives (Some self.old) (Some self.new) result into.new }
+    {
         let count = give(&self.bytes[self.at..], usize::MAX, into);
         if count == 0 {
             return Taken::End;
