@@ -15,7 +15,7 @@ use Rattle.mars_reach.specs.Image.{IsImage}
 use Rattle.mars_reach.specs.Order.{moved, renumbered}
 use Rattle.mars_reach.specs.Part.{ShowsPart}
 use Rattle.mars_reach.proofs.Images.{keeps_transitive, image_apart, image_graph, image_keeps, image_reached, image_roots_in, image_small}
-use Rattle.mars_reach.proofs.Flat.{AreLaid, laid_push, laid_size, laid_nodes, laid_below}
+use Rattle.mars_reach.proofs.Flat.{AreLaid, IsPushed, laid_push, laid_size, laid_nodes, laid_below}
 use Rattle.mars_reach.proofs.Numbers.{All-from_gets, All-slice_get}
 use Rattle.mars_reach.proofs.Parts.{node_at}
 use Rattle.mars_minim.specs.Minimal.{IsMinimal}
@@ -96,10 +96,10 @@ no_firsts g of labels kids ls ks = record {
 
 -- one class more
 pub firsts_more : (g : List Node) (of : List ℕ) (count node : ℕ) (labels more : List (Option Label)) (kids less : List ℕ) → AreFirsts g of count labels kids → node < length g → class_of of node ≡ count →
-    more ≡ labels ++ label_of g node ∷ [] → less ≡ kids ++ map (class_of of) (kids_of g node) → AreFirsts g of (count + 1) more less
-firsts_more g of count node labels more kids less firsts node_in class ls ks = record {
+    IsPushed g (class_of of) node labels more kids less → AreFirsts g of (count + 1) more less
+firsts_more g of count node labels more kids less firsts node_in class push = record {
   nodes = firsts.nodes ++ node ∷ [];
-  laid = laid_push g (class_of of) firsts.nodes node labels more kids less firsts.laid ls ks;
+  laid = laid_push g (class_of of) firsts.nodes node labels more kids less firsts.laid push;
   in_range = All-append (λ n. n < length g) firsts.nodes (node ∷ []) firsts.in_range (All-cons (λ n. n < length g) node [] node_in (All-nil (λ n. n < length g)));
   classes = λ c u e. elim (slice_get-push firsts.nodes node c u e) [
     | inl w ↦ firsts.classes c u w.0

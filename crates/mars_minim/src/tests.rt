@@ -470,7 +470,7 @@ fn all_graphs_of_three_nodes(rt: HostRuntime) -> Result<(), Fail> {
 #[test]
 fn graphs_drawn_from_a_seed(rt: HostRuntime) -> Result<(), Fail> {
     let mut draw = Draw { state: 1 };
-    for _ in 0..1000 {
+    for _ in 0..10_000 {
         let graph = draw.graph(rt.alloc())?;
         compare(&rt, &graph, &[0])?;
         let last = graph.len().saturating_sub(1);

@@ -57,23 +57,34 @@ pub record AreLaid (g : List Node) (number : ℕ → ℕ) (nodes : List ℕ) (la
   pub labels_are : labels ≡ map (label_of g) nodes
   pub kids_are : kids ≡ flat_map (numbered_kids g number) nodes
 
+-- a node's label and kids are put behind the lists
+pub record IsPushed (g : List Node) (number : ℕ → ℕ) (n : ℕ) (labels more : List (Option Label)) (kids less : List ℕ) : Type 0 where
+  pub label : Option Label
+  pub label_is : label ≡ label_of g n
+  pub labels_are : more ≡ labels ++ label ∷ []
+  pub node_kids : List ℕ
+  pub node_kids_are : node_kids ≡ kids_of g n
+  pub kids_are : less ≡ kids ++ map number node_kids
+
 module _ (g : List Node) (number : ℕ → ℕ) where
   -- one node more
-  pub laid_push : (nodes : List ℕ) (n : ℕ) (labels more : List (Option Label)) (kids less : List ℕ) → AreLaid g number nodes labels kids → more ≡ labels ++ label_of g n ∷ [] → less ≡ kids ++ numbered_kids g number n →
-      AreLaid g number (nodes ++ n ∷ []) more less
-  laid_push nodes n labels more kids less is ls ks =
+  pub laid_push : (nodes : List ℕ) (n : ℕ) (labels more : List (Option Label)) (kids less : List ℕ) → AreLaid g number nodes labels kids → IsPushed g number n labels more kids less → AreLaid g number (nodes ++ n ∷ []) more less
+  laid_push nodes n labels more kids less is push =
       let f : ℕ → List ℕ = numbered_kids g number in
       record {
-        labels_are = ls ∙ ap (λ (xs : List (Option Label)). xs ++ label_of g n ∷ []) is.labels_are ∙ sym (map-append (label_of g) nodes (n ∷ []));
-        kids_are = ks ∙ ap (λ xs. xs ++ f n) is.kids_are ∙ sym (flat_map-append f nodes (n ∷ []) ∙ ap (λ xs. flat_map f nodes ++ xs) (append-nil (f n)));
+        labels_are =
+            push.labels_are ∙ ap (λ (l : Option Label). labels ++ l ∷ []) push.label_is ∙ ap (λ (ls : List (Option Label)). ls ++ label_of g n ∷ []) is.labels_are ∙ sym (map-append (label_of g) nodes (n ∷ []));
+        kids_are =
+            push.kids_are ∙ ap (λ ks. kids ++ map number ks) push.node_kids_are ∙ ap (λ ks. ks ++ f n) is.kids_are
+            ∙ sym (flat_map-append f nodes (n ∷ []) ∙ ap (λ ks. flat_map f nodes ++ ks) (append-nil (f n)));
       }
 
   -- one node more of a list
-  pub laid_more : (nodes : List ℕ) (k n : ℕ) (labels more : List (Option Label)) (kids less : List ℕ) → slice_get nodes k ≡ Some n → AreLaid g number (take k nodes) labels kids →
-      more ≡ labels ++ label_of g n ∷ [] → less ≡ kids ++ numbered_kids g number n → AreLaid g number (take (k + 1) nodes) more less
-  laid_more nodes k n labels more kids less get is ls ks =
+  pub laid_more : (nodes : List ℕ) (k n : ℕ) (labels more : List (Option Label)) (kids less : List ℕ) → slice_get nodes k ≡ Some n → AreLaid g number (take k nodes) labels kids → IsPushed g number n labels more kids less →
+      AreLaid g number (take (k + 1) nodes) more less
+  laid_more nodes k n labels more kids less get is push =
       let one : take (k + 1) nodes ≡ take k nodes ++ n ∷ [] = take_more nodes k 0 (slice_get_within nodes k n get) ∙ ap (λ m. take k nodes ++ m ∷ []) (get_or_from_slice_get nodes k n 0 get) in
-      subst (λ (ns : List ℕ). AreLaid g number ns more less) (sym one) (laid_push (take k nodes) n labels more kids less is ls ks)
+      subst (λ (ns : List ℕ). AreLaid g number ns more less) (sym one) (laid_push (take k nodes) n labels more kids less is push)
 
   -- all nodes of a list
   pub laid_all : (nodes : List ℕ) (k : ℕ) (labels : List (Option Label)) (kids : List ℕ) → length nodes ≤ k → AreLaid g number (take k nodes) labels kids → AreLaid g number nodes labels kids

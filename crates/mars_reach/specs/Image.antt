@@ -2,8 +2,7 @@
 use Rattle.std.specs.Prelude.{◌≡◌, ℕ, ◌<◌, List, length, map, slice_get, Some}
 use Rattle.mars_tree.specs.Graph.{Node, label_of, kids_of, Same}
 
--- `h` has the nodes of `g` in `In`, with their labels, and with their kids under the new numbers; nodes share a number only
--- where they are the same tree
+-- `h` has the nodes of `g` in `In` under other numbers, with their labels and kids; only the same trees share a number
 pub record IsImage (g : List Node) (In : ℕ → Type 0) (number : ℕ → ℕ) (h : List Node) : Type 0 where
   pub in_range : (u : ℕ) → In u → u < length g
   pub closed : (u k kid : ℕ) → In u → slice_get (kids_of g u) k ≡ Some kid → In kid

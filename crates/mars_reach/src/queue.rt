@@ -1,7 +1,7 @@
 //! The nodes that roots reach, in the order of a walk over a queue.
-ghost use Rattle.std.specs.Prelude.{◌≡◌, ◌<◌, ◌≤◌, length, IfOk, All};
-ghost use Rattle.mars_tree.specs.Graph.{IsGraph};
+ghost use Rattle.std.specs.Prelude.{◌<◌, length, IfOk, All, Contains};
 ghost use Rattle.mars_reach.specs.Order.{IsReach};
+ghost use Rattle.mars_reach.specs.Part.{IsClosed};
 
 use crate::order::Order;
 use mars_base::NoMemory;
@@ -12,7 +12,9 @@ use std::alloc::Global;
 /// whatever the size of the graph. The error is want of memory alone.
 pub fn reached(alloc: Global, graph: &Graph, roots: &[usize]) -> Result<Order, NoMemory>
     requires { All (λ root. root < length graph.now) roots.now }
-    ensures { IfOk result (λ order. IsReach graph.now roots.now order) }
+    ensures reach { IfOk result (λ order. IsReach graph.now roots.now order) }
+    ensures roots_in { IfOk result (λ order. All (Contains order) roots.now) }
+    ensures closed { IfOk result (λ order. IsClosed graph.now order) }
 {
     let _count = graph.len();
     let mut order = Order::new(alloc);

@@ -1,7 +1,7 @@
 //! What roots reach, on worked graphs.
 ghost use Rattle.std.specs.Prelude.{◌≡◌, ◌<◌, length, IfOk, IsTrue, All};
 
-use crate::{Rooted, reached, reaches_free, rooted_part};
+use crate::{Order, Rooted, reached, reaches_free, rooted_part};
 use mars_base::NoMemory;
 use mars_tree::{Graph, Label, NameId};
 use std::alloc::Global;
@@ -83,7 +83,20 @@ fn parts_stand_in_the_order_of_a_queue(rt: HostRuntime) -> Result<(), Fail> {
 }
 
 #[test]
-fn orders_give_places(rt: HostRuntime) -> Result<(), Fail> {
+fn orders_keep_each_number_once(rt: HostRuntime) -> Result<(), Fail> {
+    let mut order = Order::new(rt.alloc());
+    order.meet(5)?;
+    order.meet(0)?;
+    order.meet(5)?;
+    assert_eq!(rt; order.len(), 2, "a number that was met stays where it is");
+    assert_eq!(rt; order.get(1), 0, "a new number goes last");
+    assert_eq!(rt; order.place(5), 0, "the place of the first");
+    assert_eq!(rt; order.place(0), 1, "the place of the last");
+    Ok(())
+}
+
+#[test]
+fn one_root_stands_before_its_kids(rt: HostRuntime) -> Result<(), Fail> {
     let graph = shared(rt.alloc())?;
     assert!(rt; 5 < graph.len(), "all nodes are there");
     let order = reached(rt.alloc(), &graph, &[5])?;

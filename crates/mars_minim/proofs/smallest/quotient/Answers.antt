@@ -1,6 +1,5 @@
-use Rattle.std.proofs.Common.{◌≡◌, ◌<◌, ◌++◌, ◌∷◌, [], ℕ, List, length, map, get_or, Option, sym, subst, ap, ◌∙◌, arith}
+use Rattle.std.proofs.Common.{◌≡◌, ◌<◌, ℕ, List, length, get_or, sym, subst, arith}
 use Rattle.std.proofs.lemmas.List.Elements.{Contains-get_or}
-use Rattle.mars_tree.specs.declared.label.Label.{Label}
 use Rattle.mars_tree.specs.Graph.{Node}
 use Rattle.mars_refine.specs.Refine.{class_of}
 use Rattle.mars_refine.specs.Classes.{AreMembers}
@@ -28,11 +27,14 @@ loop-class-preserved c =
     let g = c.args.graph.now in
     let of : List ℕ = c.args.classes.now.of in
     let first = first_in of c.members.result.now c.loop-class.class (length g) c.members.ensures.members c.members.ensures.some c.requires.size in
-    let labels : List (Option Label) = c.loop-class.labels.items in
-    let kids : List ℕ = c.loop-class.kids.items in
-    firsts_more g of c.loop-class.class (get_or c.members.result.now 0 0) labels c.push.new.self.items kids c.push_classes.new.into.items c.loop-class.invariant first.0 first.1
-    (c.in_ok-push.ensures.items ∙ ap (λ (l : Option Label). labels ++ l ∷ []) c.label.ensures)
-    (c.in_ok-push_classes.ensures ∙ ap (λ (ks : List ℕ). kids ++ map (class_of of) ks) c.kids.ensures.kids)
+    firsts_more g of c.loop-class.class (get_or c.members.result.now 0 0) c.loop-class.labels.items c.push.new.self.items c.loop-class.kids.items c.push_classes.new.into.items c.loop-class.invariant first.0 first.1 (record {
+      label = c.label.result;
+      label_is = c.label.ensures;
+      labels_are = c.in_ok-push.ensures.items;
+      node_kids = c.kids.result.now;
+      node_kids_are = c.kids.ensures.kids;
+      kids_are = c.in_ok-push_classes.ensures;
+    })
 
 below : (c : goal.After-loop-class) → (u : ℕ) → u < length c.args.graph.now → class_of c.args.classes.now.of u < c.loop-class.class
 below c u u_in =

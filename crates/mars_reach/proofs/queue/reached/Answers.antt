@@ -4,6 +4,7 @@ use Rattle.mars_tree.specs.Graph.{kids_of}
 use Rattle.mars_reach.specs.Order.{met_after, IsReached}
 use Rattle.mars_reach.proofs.Ordering.{queue_more}
 use Rattle.mars_reach.proofs.Numbers.{All-met, All-slice_get, distinct_count}
+use Rattle.mars_reach.proofs.Queues.{queue_closed, roots_met}
 use Rattle.mars_reach.proofs.Walked.{roots_reached, kids_reached, reach_done}
 use Rattle.mars_reach.proofs.queue.reached.Goals as goal
 
@@ -46,4 +47,8 @@ loop-next-preserved c =
 pub returns : goal.returns
 returns c =
     let i = c.loop-next.invariant in
-    reach_done c.args.graph.now c.args.roots.now c.loop-next.next c.loop-next.order i.within (omega (arith, c.len.ensures.len)) c.len.ensures.distinct i.met i.early i.in_range i.reached
+    let g = c.args.graph.now in
+    let roots = c.args.roots.now in
+    let order = c.loop-next.order in
+    let reach = reach_done g roots c.loop-next.next order i.within (omega (arith, c.len.ensures.len)) c.len.ensures.distinct i.met i.early i.in_range i.reached in
+    record { reach = reach; roots_in = roots_met g roots order reach.queue; closed = queue_closed g roots order reach.queue }

@@ -1,4 +1,4 @@
-use Rattle.std.proofs.Common.{◌≡◌, ◌++◌, ◌∷◌, [], List, ℕ, map, Contains, All, sym, subst, ap, ◌∙◌, arith, Option}
+use Rattle.std.proofs.Common.{◌≡◌, List, ℕ, map, Contains, All, sym, subst, ◌∙◌, arith, Option}
 use Rattle.std.proofs.lemmas.List.Elements.{All-contains}
 use Rattle.mars_tree.specs.declared.label.Label.{Label}
 use Rattle.mars_tree.specs.Graph.{Node, IsGraph, kids_of}
@@ -19,11 +19,14 @@ push_places-requires c =
 pub loop-place-preserved : goal.loop-place-preserved
 loop-place-preserved c =
     let order = c.args.order.now in
-    let labels : List (Option Label) = c.loop-place.labels.items in
-    let kids : List ℕ = c.loop-place.kids.items in
-    laid_more c.args.graph.now (place_in order) order c.loop-place.place c.get-node.result labels c.push.new.self.items kids c.push_places.new.into.items c.get-node.ensures c.loop-place.invariant
-    (c.in_ok-push.ensures.items ∙ ap (λ (l : Option Label). labels ++ l ∷ []) c.label.ensures)
-    (c.in_ok-push_places.ensures ∙ ap (λ (ks : List ℕ). kids ++ map (place_in order) ks) c.kids.ensures.kids)
+    laid_more c.args.graph.now (place_in order) order c.loop-place.place c.get-node.result c.loop-place.labels.items c.push.new.self.items c.loop-place.kids.items c.push_places.new.into.items c.get-node.ensures c.loop-place.invariant (record {
+      label = c.label.result;
+      label_is = c.label.ensures;
+      labels_are = c.in_ok-push.ensures.items;
+      node_kids = c.kids.result.now;
+      node_kids_are = c.kids.ensures.kids;
+      kids_are = c.in_ok-push_places.ensures;
+    })
 
 laid : (c : goal.After-loop-place) → AreLaid c.args.graph.now (place_in c.args.order.now) c.args.order.now c.loop-place.labels.items c.loop-place.kids.items
 laid c = laid_all c.args.graph.now (place_in c.args.order.now) c.args.order.now c.loop-place.place c.loop-place.labels.items c.loop-place.kids.items (omega arith) c.loop-place.invariant
