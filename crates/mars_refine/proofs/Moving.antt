@@ -234,14 +234,21 @@ module _ (of order place : List ℕ) (spans : List Span) (marked : List Bool) (i
         ];
       }
 
-  -- the same by what is read
-  pub move_reads : (node class at other : ℕ) (span again : Span) (mark : Bool) → node < length of → mark ≡ get_or marked node mark → mark ≡ false → class ≡ get_or of node class → span ≡ get_or spans class span → at ≡ get_or place node at → other ≡ get_or order span.middle other → again ≡ get_or spans class again →
-      IsParted of (set (set order at other) span.middle node) (set (set place other at) node span.middle) (set spans class (record { start = again.start; middle = span.middle + 1; end = again.end })) (set marked node true)
-  move_reads node class at other span again mark node_in mark_is free class_is span_is at_is other_is again_is =
+  -- behind the marked nodes of a class there is room while one of its nodes isn't marked
+  pub room_behind : (node class : ℕ) (span : Span) (mark : Bool) → node < length of → mark ≡ get_or marked node mark → mark ≡ false → class ≡ get_or of node class → span ≡ get_or spans class span → span.middle < span.end
+  room_behind node class span mark node_in mark_is free class_is span_is =
       let e1 : class ≡ class_of of node = get_or_read of node class node_in class_is 0 in
       let c_in : class < length spans = omega (arith, is.of_in node node_in) in
       let e2 : span ≡ span_of spans (class_of of node) = get_or_read spans class span c_in span_is no_span ∙ ap (span_of spans) e1 in
-      let e3 : again ≡ span_of spans (class_of of node) = get_or_read spans class again c_in again_is no_span ∙ ap (span_of spans) e1 in
+      omega (arith, ap (λ (x : Span). x.middle) e2, ap (λ (x : Span). x.end) e2, is.behind node node_in (sym (get_or_read marked node mark (omega (arith, is.marks_size)) mark_is false) ∙ free), is.to_end node node_in)
+
+  -- the same by what is read
+  pub move_reads : (node class at other : ℕ) (span next : Span) (mark : Bool) → node < length of → mark ≡ get_or marked node mark → mark ≡ false → class ≡ get_or of node class → span ≡ get_or spans class span → at ≡ get_or place node at → other ≡ get_or order span.middle other → next ≡ record { start = span.start; middle = span.middle + 1; end = span.end } →
+      IsParted of (set (set order at other) span.middle node) (set (set place other at) node span.middle) (set spans class next) (set marked node true)
+  move_reads node class at other span next mark node_in mark_is free class_is span_is at_is other_is next_is =
+      let e1 : class ≡ class_of of node = get_or_read of node class node_in class_is 0 in
+      let c_in : class < length spans = omega (arith, is.of_in node node_in) in
+      let e2 : span ≡ span_of spans (class_of of node) = get_or_read spans class span c_in span_is no_span ∙ ap (span_of spans) e1 in
       let e4 : at ≡ at_place place node = get_or_read place node at (omega (arith, is.ordered.place_size)) at_is 0 in
       let c_in' : class_of of node < length spans = is.of_in node node_in in
       let m_in : span.middle < length order = omega (arith, ap (λ (x : Span). x.middle) e2, is.behind node node_in (sym (get_or_read marked node mark (omega (arith, is.marks_size)) mark_is false) ∙ free), is.ordered.place_in node node_in, is.ordered.order_size) in
@@ -254,4 +261,5 @@ module _ (of order place : List ℕ) (spans : List Span) (marked : List Bool) (i
       let w2 : P class at (at_place order s.middle) s.middle s = subst (λ (c : ℕ). P c at (at_place order s.middle) s.middle s) (sym e1) (subst (λ (a : ℕ). P (class_of of node) a (at_place order s.middle) s.middle s) (sym e4) w1) in
       let w3 : P class at (at_place order span.middle) span.middle s = subst (λ (m : ℕ). P class at (at_place order m) m s) (sym e6) w2 in
       let w4 : P class at other span.middle s = subst (λ (o : ℕ). P class at o span.middle s) (sym e5) w3 in
-      subst (λ (g : Span). P class at other span.middle g) (sym e3) w4
+      let w5 : P class at other span.middle span = subst (λ (g : Span). P class at other span.middle g) (sym e2) w4 in
+      subst (λ (s : Span). IsParted of (set (set order at other) span.middle node) (set (set place other at) node span.middle) (set spans class s) (set marked node true)) (sym next_is) w5

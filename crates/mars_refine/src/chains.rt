@@ -2,6 +2,7 @@
 ghost use Rattle.std.specs.Prelude.{◌≡◌, ◌<◌, ◌≤◌, ◌++◌, ◌∷◌, [], ℕ, length, slice_index_or, IfOk, OnOk};
 ghost use Rattle.mars_refine.specs.Chains.{Keyed, IsLast};
 
+use crate::small::small;
 use crate::writes::write_all;
 use mars_base::NoMemory;
 use std::alloc::Global;
@@ -10,9 +11,9 @@ use std::marker::Model;
 /// The keys of entries, each entry linked to the one before it with its key. A link is one more than the entry, or 0 for none.
 #[derive(Drop)]
 pub struct Chains {
-    lasts: Vec<usize>,
-    keys: Vec<usize>,
-    befores: Vec<usize>,
+    lasts: Vec<u32>,
+    keys: Vec<u32>,
+    befores: Vec<u32>,
 }
 
 impl Model for Chains {
@@ -39,15 +40,16 @@ impl Chains {
     }
 
     /// Adds the next entry.
-    pub fn push(&mut self, key: usize) -> Result<(), NoMemory>
+    pub fn push(&mut self, key: u32) -> Result<(), NoMemory>
         requires { key < self.old.size }
         ensures { OnOk result (self.new ≡ record { size = self.old.size; keys = self.old.keys ++ key ∷ [] }) }
     {
+        let count = small(self.keys.len() + 1)?;
         self.keys.reserve(1)?;
         self.befores.reserve(1)?;
         self.keys.push_reserved(key);
-        self.befores.push_reserved(self.lasts[key]);
-        self.lasts[key] = self.keys.len();
+        self.befores.push_reserved(self.lasts[key as usize]);
+        self.lasts[key as usize] = count;
         Ok(())
     }
 
@@ -61,7 +63,7 @@ impl Chains {
     }
 
     /// How many entries there are up to the last with the key.
-    pub fn last(&self, key: usize) -> usize
+    pub fn last(&self, key: usize) -> u32
         requires { key < self.now.size }
         ensures { IsLast self.now.keys key (length self.now.keys) result }
     {
@@ -69,10 +71,10 @@ impl Chains {
     }
 
     /// How many entries there are up to the last with the same key before an entry.
-    pub fn before(&self, entry: usize) -> usize
+    pub fn before(&self, entry: u32) -> u32
         requires { entry < length self.now.keys }
         ensures { IsLast self.now.keys (slice_index_or self.now.keys entry 0) entry result }
     {
-        self.befores[entry]
+        self.befores[entry as usize]
     }
 }

@@ -6,6 +6,7 @@ ghost use Rattle.mars_refine.specs.Classes.{Parted, AreEachOnce, AreMembers, IsS
 ghost use Rattle.mars_refine.specs.ClassesInside.{IsPartedInside, at_place, AreTouched, parted_of, SplitsOne, span_of};
 ghost use Rattle.mars_refine.specs.Refine.{class_of};
 
+use crate::small::small;
 use crate::writes::write_all;
 use mars_base::NoMemory;
 use std::alloc::Global;
@@ -15,15 +16,15 @@ use std::marker::Model;
 #[derive(Drop)]
 pub struct Classes {
     parts: Parts,
-    touched: Vec<usize>,
+    touched: Vec<u32>,
 }
 
 /// The nodes of a class stand next to each other in `order`, those that are marked in front.
 #[derive(Drop)]
 struct Parts {
-    of: Vec<usize>,
-    order: Vec<usize>,
-    place: Vec<usize>,
+    of: Vec<u32>,
+    order: Vec<u32>,
+    place: Vec<u32>,
     spans: Vec<Span>,
     marked: Vec<bool>,
 }
@@ -31,9 +32,9 @@ struct Parts {
 /// Where the nodes of a class stand: the marked ones from `start` to `middle`, the others from there to `end`.
 #[derive(Clone, Copy)]
 struct Span {
-    start: usize,
-    middle: usize,
-    end: usize,
+    start: u32,
+    middle: u32,
+    end: u32,
 }
 
 impl Model for Classes {
@@ -53,7 +54,7 @@ impl Classes {
         ensures of { IfOk result (λ c. c.of ≡ replicate count 0) }
         ensures marked { IfOk result (λ c. c.marked ≡ replicate count false) }
     {
-        let parts = all_in_one(alloc, count)?;
+        let parts = all_in_one(alloc, small(count)?)?;
         Ok(Classes {
             parts,
             touched: Vec::new(alloc),
@@ -75,11 +76,11 @@ impl Classes {
         ensures class { result ≡ class_of self.now.of node }
         ensures below { result < self.now.count }
     {
-        self.parts.of[node]
+        self.parts.of[node] as usize
     }
 
     /// The nodes of a class, each once, in no order that is promised. There is at least one.
-    pub fn members(&self, class: usize) -> &[usize]
+    pub fn members(&self, class: usize) -> &[u32]
         requires { class < self.now.count }
         ensures members { AreMembers self.now.of class result.now }
         ensures once { AreEachOnce result.now }
@@ -90,7 +91,7 @@ impl Classes {
     }
 
     /// Marks a node, in constant time.
-    pub(crate) fn mark(&mut self, node: usize) -> Result<(), NoMemory>
+    pub(crate) fn mark(&mut self, node: u32) -> Result<(), NoMemory>
         requires { node < length self.old.of }
         ensures of { self.new.of ≡ self.old.of }
         ensures count { self.new.count ≡ self.old.count }
@@ -113,7 +114,7 @@ impl Classes {
 }
 
 /// All numbers below a count, in order.
-fn numbers_below(alloc: Global, count: usize) -> Result<Vec<usize>, NoMemory>
+fn numbers_below(alloc: Global, count: u32) -> Result<Vec<u32>, NoMemory>
     ensures size { IfOk result (λ all. length all.items ≡ count) }
     ensures are { IfOk result (λ all. (i : ℕ) → i < count → at_place all.items i ≡ i) }
 {
@@ -125,7 +126,7 @@ fn numbers_below(alloc: Global, count: usize) -> Result<Vec<usize>, NoMemory>
 }
 
 /// All nodes in one class, or no class where there is no node.
-fn all_in_one(alloc: Global, count: usize) -> Result<Parts, NoMemory>
+fn all_in_one(alloc: Global, count: u32) -> Result<Parts, NoMemory>
     ensures parted { IfOk result (λ p. IsPartedInside p) }
     ensures of { IfOk result (λ p. p.of.items ≡ replicate count 0) }
     ensures marked { IfOk result (λ p. p.marked.items ≡ replicate count false) }
@@ -139,41 +140,54 @@ fn all_in_one(alloc: Global, count: usize) -> Result<Parts, NoMemory>
         })?;
     }
     Ok(Parts {
-        of: vec![in alloc; 0; count]?,
+        of: vec![in alloc; 0; count as usize]?,
         order: numbers_below(alloc, count)?,
         place: numbers_below(alloc, count)?,
         spans,
-        marked: vec![in alloc; false; count]?,
+        marked: vec![in alloc; false; count as usize]?,
     })
 }
 
 /// The numbers from one place to another.
-fn slice(numbers: &[usize], from: usize, to: usize) -> &[usize]
+fn slice(numbers: &[u32], from: u32, to: u32) -> &[u32]
     requires order { from ≤ to }
     requires within { to ≤ length numbers.now }
     ensures { result.now ≡ slice_range numbers.now from to }
 {
-    &numbers[from..to]
+    &numbers[from as usize..to as usize]
 }
 
 /// Puts the class of a node into the list, where it isn't there for another node.
-fn touch(touched: &mut Vec<usize>, parts: &Parts, node: usize) -> Result<(), NoMemory>
+fn touch(touched: &mut Vec<u32>, parts: &Parts, node: u32) -> Result<(), NoMemory>
     requires parted { IsPartedInside parts.now }
     requires node_in { node < length parts.now.of.items }
     requires touched { AreTouched (parted_of parts.now) touched.old.items }
     ensures touched { AreTouched (parted_of parts.now) touched.new.items }
     ensures there { OnOk result (Contains touched.new.items (class_of parts.now.of.items node)) }
 {
-    let class = parts.of[node];
-    let span = parts.spans[class];
+    let class = parts.of[node as usize];
+    let span = parts.spans[class as usize];
     if span.start == span.middle {
         touched.push(class)?;
     }
     Ok(())
 }
 
+/// The span with one marked node more.
+fn one_marked_more(span: Span) -> Span
+    requires { span.middle < span.end }
+    ensures { result ≡ record { start = span.start; middle = span.middle + 1; end = span.end } }
+{
+    let Span { start, middle, end } = span;
+    Span {
+        start,
+        middle: middle + 1,
+        end,
+    }
+}
+
 /// Moves a node to the front of its class, behind those that are marked, and marks it.
-fn move_front(parts: &mut Parts, node: usize)
+fn move_front(parts: &mut Parts, node: u32)
     requires parted { IsPartedInside parts.old }
     requires node_in { node < length parts.old.of.items }
     ensures parted { IsPartedInside parts.new }
@@ -181,19 +195,20 @@ fn move_front(parts: &mut Parts, node: usize)
     ensures count { length parts.new.spans.items ≡ length parts.old.spans.items }
     ensures marked { parts.new.marked.items ≡ slice_set parts.old.marked.items node true }
 {
-    if parts.marked[node] {
+    if parts.marked[node as usize] {
         return;
     }
-    let class = parts.of[node];
-    let middle = parts.spans[class].middle;
-    let at = parts.place[node];
-    let other = parts.order[middle];
-    parts.order[at] = other;
-    parts.place[other] = at;
-    parts.order[middle] = node;
-    parts.place[node] = middle;
-    parts.spans[class].middle = middle + 1;
-    parts.marked[node] = true;
+    let class = parts.of[node as usize];
+    let span = parts.spans[class as usize];
+    let middle = span.middle;
+    let at = parts.place[node as usize];
+    let other = parts.order[middle as usize];
+    parts.order[at as usize] = other;
+    parts.place[other as usize] = at;
+    parts.order[middle as usize] = node;
+    parts.place[node as usize] = middle;
+    parts.spans[class as usize] = one_marked_more(span);
+    parts.marked[node as usize] = true;
 }
 
 /// The two, the shorter one first.
@@ -221,7 +236,7 @@ fn part_class(parts: &mut Parts, class: usize) -> Result<(), NoMemory>
     ensures err { OnErr result (parted_of parts.new ≡ parted_of parts.old) }
 {
     let Span { start, middle, end } = parts.spans[class];
-    let new = parts.spans.len();
+    let new = small(parts.spans.len())?;
     let front = Span {
         start,
         middle: start,
@@ -278,7 +293,7 @@ fn split_class(parts: &mut Parts, class: usize) -> Result<(), NoMemory>
 }
 
 /// Parts the classes of a list, one after another.
-fn split_each(parts: &mut Parts, touched: &[usize]) -> Result<(), NoMemory>
+fn split_each(parts: &mut Parts, touched: &[u32]) -> Result<(), NoMemory>
     requires parted { IsPartedInside parts.old }
     requires touched { AreTouched (parted_of parts.old) touched.now }
     ensures parted { IsPartedInside parts.new }
@@ -286,7 +301,7 @@ fn split_each(parts: &mut Parts, touched: &[usize]) -> Result<(), NoMemory>
     ensures touched { OnErr result (AreTouched (parted_of parts.new) touched.now) }
 {
     for class in touched {
-        split_class(parts, *class)?;
+        split_class(parts, *class as usize)?;
     }
     Ok(())
 }

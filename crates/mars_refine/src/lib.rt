@@ -9,6 +9,7 @@ mod found;
 mod links;
 mod marks;
 mod refine;
+mod small;
 mod writes;
 
 pub use classes::Classes;

@@ -7,6 +7,7 @@ ghost use Rattle.mars_refine.specs.Chains.{Keyed};
 
 use crate::chains::Chains;
 use crate::classes::Classes;
+use crate::small::small;
 use indexmap::IndexSet;
 use mars_base::NoMemory;
 use mars_tree::{Graph, Label};
@@ -31,20 +32,20 @@ fn shown_at(graph: &Graph, node: usize) -> Shown
 }
 
 /// Numbers of nodes that are equal exactly where the same is shown.
-fn numbers(alloc: Global, graph: &Graph) -> Result<Vec<usize>, NoMemory>
+fn numbers(alloc: Global, graph: &Graph) -> Result<Vec<u32>, NoMemory>
     ensures { IfOk result (λ n. AreNumbers graph.now n.items) }
 {
     let mut marks = IndexSet::new(alloc);
     let mut numbers = Vec::new(alloc);
     for node in 0..graph.len() {
         let (number, _new) = marks.insert_full(shown_at(graph, node))?;
-        numbers.push(number)?;
+        numbers.push(small(number)?)?;
     }
     Ok(numbers)
 }
 
 /// The numbers as keys of entries.
-fn chained(alloc: Global, size: usize, numbers: &[usize]) -> Result<Chains, NoMemory>
+fn chained(alloc: Global, size: usize, numbers: &[u32]) -> Result<Chains, NoMemory>
     requires { All (λ n. n < size) numbers.now }
     ensures { IfOk result (λ c. c ≡ record { size = size; keys = numbers.now }) }
 {

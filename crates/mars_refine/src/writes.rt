@@ -3,11 +3,11 @@ ghost use Rattle.std.specs.Prelude.{◌≡◌, ◌<◌, length, All};
 ghost use Rattle.mars_refine.specs.Writes.{put_all};
 
 /// Writes a value at each of the places.
-pub fn write_all<T: Copy + Drop>(values: &mut Vec<T>, places: &[usize], value: T)
+pub fn write_all<T: Copy + Drop>(values: &mut Vec<T>, places: &[u32], value: T)
     requires { All (λ p. p < length values.old.items) places.now }
     ensures { values.new.items ≡ put_all values.old.items places.now value }
 {
     for place in places {
-        values[*place] = value;
+        values[*place as usize] = value;
     }
 }
