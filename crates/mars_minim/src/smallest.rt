@@ -41,7 +41,7 @@ fn quotient(alloc: Global, graph: &Graph, classes: &Classes) -> Result<Graph, No
     let mut labels = Vec::with_capacity(alloc, classes.count())?;
     let mut kids = Vec::new(alloc);
     for class in 0..classes.count() {
-        let node = classes.members(class)[0];
+        let node = classes.members(class)[0] as usize;
         labels.push(graph.label(node))?;
         push_classes(classes, graph.kids(node), &mut kids)?;
     }
