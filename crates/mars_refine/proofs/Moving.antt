@@ -1,10 +1,10 @@
 -- A node that moves to the front of its class and is marked.
-use Rattle.std.proofs.Common.{◌≡◌, ◌≢◌, ◌⊎◌, ℕ, ◌<◌, ◌≤◌, ◌+◌, List, Bool, true, false, length, get_or, set, refl, sym, subst, ap, ◌∙◌, arith, inl, inr, length-set}
+use Rattle.std.proofs.Common.{◌≡◌, ◌≢◌, ◌⊎◌, ◌↔◌, ℕ, ◌<◌, ◌≤◌, ◌+◌, ◌-◌, List, Bool, true, false, length, get_or, set, refl, sym, subst, ap, ◌∙◌, arith, inl, inr, length-set}
 use Rattle.std.proofs.lemmas.Bool.{cases_lt}
 use Rattle.std.proofs.lemmas.List.{get_or_read}
 use Rattle.mars_refine.specs.declared.classes.Span.{Span}
 use Rattle.mars_refine.specs.Refine.{class_of}
-use Rattle.mars_refine.specs.Classes.{is_marked}
+use Rattle.mars_refine.specs.Classes.{is_marked, IsAlone}
 use Rattle.mars_refine.specs.ClassesInside.{at_place, span_of, IsOrder, IsParted}
 use Rattle.mars_refine.proofs.Writing.{set_cases}
 
@@ -234,12 +234,46 @@ module _ (of order place : List ℕ) (spans : List Span) (marked : List Bool) (i
         ];
       }
 
+  -- the span of a node's class by what is read
+  span_reads : (node class : ℕ) (span : Span) → node < length of → class ≡ get_or of node class → span ≡ get_or spans class span → span ≡ span_of spans (class_of of node)
+  span_reads node class span node_in class_is span_is =
+      let e1 : class ≡ class_of of node = get_or_read of node class node_in class_is 0 in
+      let c_in : class < length spans = omega (arith, is.of_in node node_in) in
+      get_or_read spans class span c_in span_is no_span ∙ ap (span_of spans) e1
+
+  -- a node is alone exactly where its class has one place
+  pub alone_reads : (node class : ℕ) (span : Span) → node < length of → class ≡ get_or of node class → span ≡ get_or spans class span → (span.end - span.start ≡ 1) ↔ IsAlone of node
+  alone_reads node class span node_in class_is span_is =
+      let e = span_reads node class span node_in class_is span_is in
+      let c = class_of of node in
+      let s = span_of spans c in
+      let c_in : c < length spans = is.of_in node node_in in
+      let start_is : span.start ≡ s.start = ap (λ (x : Span). x.start) e in
+      let end_is : span.end ≡ s.end = ap (λ (x : Span). x.end) e in
+      let from : s.start ≤ at_place place node = is.from_start node node_in in
+      let to : at_place place node < s.end = is.to_end node node_in in
+      let end_in : s.end ≤ length of = is.end_le c c_in in (
+        λ one v v_in same.
+            let v_from : s.start ≤ at_place place v = omega (arith, is.from_start v v_in, ap (λ d. (span_of spans d).start) same) in
+            let v_to : at_place place v < s.end = omega (arith, is.to_end v v_in, ap (λ d. (span_of spans d).end) same) in
+            let at : at_place place v ≡ at_place place node = omega arith in
+            sym (is.ordered.there v v_in) ∙ ap (at_place order) at ∙ is.ordered.there node node_in,
+        λ alone. elim (cases_lt (s.start + 1) s.end) [
+          | inr le ↦ omega arith
+          | inl lt ↦
+              let i : ℕ = s.start in
+              let i_in : i < length of = omega arith in
+              let j_in : i + 1 < length of = omega arith in
+              let first : at_place order i ≡ node = alone (at_place order i) (is.ordered.node_in i i_in) (is.inside c i c_in (omega arith) (omega arith)) in
+              let second : at_place order (i + 1) ≡ node = alone (at_place order (i + 1)) (is.ordered.node_in (i + 1) j_in) (is.inside c (i + 1) c_in (omega arith) lt) in
+              absurd (omega (arith, is.ordered.back i i_in, is.ordered.back (i + 1) j_in, ap (at_place place) first, ap (at_place place) second))
+        ],
+      )
+
   -- behind the marked nodes of a class there is room while one of its nodes isn't marked
   pub room_behind : (node class : ℕ) (span : Span) (mark : Bool) → node < length of → mark ≡ get_or marked node mark → mark ≡ false → class ≡ get_or of node class → span ≡ get_or spans class span → span.middle < span.end
   room_behind node class span mark node_in mark_is free class_is span_is =
-      let e1 : class ≡ class_of of node = get_or_read of node class node_in class_is 0 in
-      let c_in : class < length spans = omega (arith, is.of_in node node_in) in
-      let e2 : span ≡ span_of spans (class_of of node) = get_or_read spans class span c_in span_is no_span ∙ ap (span_of spans) e1 in
+      let e2 = span_reads node class span node_in class_is span_is in
       omega (arith, ap (λ (x : Span). x.middle) e2, ap (λ (x : Span). x.end) e2, is.behind node node_in (sym (get_or_read marked node mark (omega (arith, is.marks_size)) mark_is false) ∙ free), is.to_end node node_in)
 
   -- the same by what is read

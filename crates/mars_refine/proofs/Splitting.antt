@@ -6,7 +6,7 @@ use Rattle.std.proofs.Math.Seq.{drop-cons}
 use Rattle.mars_tree.specs.Graph.{Node, IsGraph, kids_of}
 use Rattle.mars_refine.specs.declared.edge.Edge.{Edge}
 use Rattle.mars_refine.specs.Refine.{class_of, HasKidIn, IsSplitTo, IsRefining}
-use Rattle.mars_refine.specs.Classes.{Parted, IsSplit, IsSplitBy, AreFree, is_marked}
+use Rattle.mars_refine.specs.Classes.{Parted, IsSplit, IsSplitBy, AreFree, IsAlone, IsMarking, is_marked}
 use Rattle.mars_refine.specs.Chains.{IsLast}
 use Rattle.mars_refine.specs.Marks.{AreNumbers}
 use Rattle.std.proofs.lemmas.List.{length-replicate, get_or-replicate}
@@ -26,8 +26,16 @@ marks_more marked marked' node n u node_in size e =
       | inr h ↦ (λ k. inr (sym h.1 ∙ sym read ∙ k), λ k. elim k [ inl same ↦ absurd (h.0 same) | inr mark ↦ read ∙ h.1 ∙ mark ])
     ]
 
+-- the same where a node that is alone may go without a mark
+marks_apart : (old new : Parted) (n node u : ℕ) → node < n → length new.marked ≡ n → IsMarking old node new → (IsAlone old.of u → ⊥) → (is_marked new.marked u ≡ true) ↔ ((u ≡ node) ⊎ (is_marked old.marked u ≡ true))
+marks_apart old new n node u node_in size (inl e) apart = marks_more old.marked new.marked node n u node_in size e
+marks_apart old new n node u node_in size (inr k) apart = (
+  λ h. inr (sym (ap (λ m. is_marked m u) k.0) ∙ h),
+  λ h. elim h [ inl same ↦ absurd (apart (subst (IsAlone old.of) (sym same) k.1)) | inr mark ↦ ap (λ m. is_marked m u) k.0 ∙ mark ],
+)
+
 -- marks by a fact make a split by the fact
-pub split_by : (P : ℕ → Type 0) (start mid new : Parted) → mid.of ≡ start.of → mid.count ≡ start.count → ((u : ℕ) → u < length start.of → (is_marked mid.marked u ≡ true) ↔ P u) → IsSplit mid new → IsSplitBy P start new
+pub split_by : (P : ℕ → Type 0) (start mid new : Parted) → mid.of ≡ start.of → mid.count ≡ start.count → ((u : ℕ) → u < length start.of → (IsAlone start.of u → ⊥) → (is_marked mid.marked u ≡ true) ↔ P u) → IsSplit mid new → IsSplitBy P start new
 split_by P start mid new of_is count_is marks s =
     let size : length mid.of ≡ length start.of = ap length of_is in
     let cls : (u : ℕ) → class_of mid.of u ≡ class_of start.of u = λ u. ap (λ o. class_of o u) of_is in
@@ -39,18 +47,33 @@ split_by P start mid new of_is count_is marks s =
         | inr behind ↦ inr (omega (arith, behind, count_is))
       ];
       parts = λ u v u_in v_in.
-          let p = s.parts u v (omega (arith, size)) (omega (arith, size)) in (
+          let p = s.parts u v (omega (arith, size)) (omega (arith, size)) in
+          let left : class_of start.of u ≡ class_of start.of v → (u ≡ v → ⊥) → IsAlone start.of u → ⊥ = λ same other alone. other (sym (alone v v_in (sym same))) in
+          let right : class_of start.of u ≡ class_of start.of v → (u ≡ v → ⊥) → IsAlone start.of v → ⊥ = λ same other alone. other (alone u u_in same) in (
             λ e.
                 let q = p.0 e in
-                (sym (cls u) ∙ q.0 ∙ cls v, (λ h. (marks v v_in).0 (sym q.1 ∙ (marks u u_in).1 h), λ h. (marks u u_in).0 (q.1 ∙ (marks v v_in).1 h))),
+                let same : class_of start.of u ≡ class_of start.of v = sym (cls u) ∙ q.0 ∙ cls v in
+                elim (cases_eq u v) [
+                  | inl one ↦ (same, subst (λ (w : ℕ). P u ↔ P w) one (λ h. h, λ h. h))
+                  | inr other ↦
+                      let m = marks u u_in (left same other) in
+                      let n = marks v v_in (right same other) in
+                      (same, (λ h. n.0 (sym q.1 ∙ m.1 h), λ h. m.0 (q.1 ∙ n.1 h)))
+                ],
             λ k. p.1 (
               cls u ∙ k.0 ∙ sym (cls v),
-              elim (true_or_false (is_marked mid.marked u)) [
-                | inl a ↦ a ∙ sym ((marks v v_in).1 (k.1.0 ((marks u u_in).0 a)))
-                | inr a ↦ elim (true_or_false (is_marked mid.marked v)) [
-                  | inl b ↦ (marks u u_in).1 (k.1.1 ((marks v v_in).0 b)) ∙ sym b
-                  | inr b ↦ a ∙ sym b
-                ]
+              elim (cases_eq u v) [
+                | inl one ↦ ap (is_marked mid.marked) one
+                | inr other ↦
+                    let m = marks u u_in (left k.0 other) in
+                    let n = marks v v_in (right k.0 other) in
+                    elim (true_or_false (is_marked mid.marked u)) [
+                      | inl a ↦ a ∙ sym (n.1 (k.1.0 (m.0 a)))
+                      | inr a ↦ elim (true_or_false (is_marked mid.marked v)) [
+                        | inl b ↦ m.1 (k.1.1 (n.0 b)) ∙ sym b
+                        | inr b ↦ a ∙ sym b
+                      ]
+                    ]
               ],
             ),
           );
@@ -193,7 +216,7 @@ pub record IsMarkedAt (edges : List Edge) (keys : List ℕ) (place count : ℕ) 
   pub count_is : now.count ≡ old.count
   pub within : count ≤ length keys
   pub here : 0 < count → get_or keys (count - 1) 0 ≡ place
-  pub marked : (u : ℕ) → u < length old.of → (is_marked now.marked u ≡ true) ↔ ((i : ℕ) × (count ≤ i) × (i < length edges) × (edge_at edges i ≡ record { node = u; place = place }))
+  pub marked : (u : ℕ) → u < length old.of → (IsAlone old.of u → ⊥) → (is_marked now.marked u ≡ true) ↔ ((i : ℕ) × (count ≤ i) × (i < length edges) × (edge_at edges i ≡ record { node = u; place = place }))
 
 pub marked_at_start : (edges : List Edge) (keys : List ℕ) (place count : ℕ) (old : Parted) → AreByPlace edges keys → AreFree old → IsLast keys place (length keys) count → IsMarkedAt edges keys place count old old
 marked_at_start edges keys place count old beside free last = record {
@@ -201,14 +224,14 @@ marked_at_start edges keys place count old beside free last = record {
   count_is = refl;
   within = last.within;
   here = last.here;
-  marked = λ u h. (
+  marked = λ u h apart. (
     λ m. absurd (let e : true ≡ false = sym m ∙ free u h in cc),
     λ k. absurd (last.none_behind k.0 k.1 (omega (arith, k.2, beside.beside)) (beside.each k.0 k.2 ∙ ap (λ (e : Edge). e.place) k.3)),
   );
 }
 
 pub marked_at_next : (edges : List Edge) (keys : List ℕ) (place count count' key node : ℕ) (old now new : Parted) → AreByPlace edges keys → 0 < count → IsMarkedAt edges keys place count old now → node < length old.of → node ≡ (edge_at edges (count - 1)).node →
-    new.of ≡ now.of → new.count ≡ now.count → length new.marked ≡ length new.of → new.marked ≡ set now.marked node true →
+    new.of ≡ now.of → new.count ≡ now.count → length new.marked ≡ length new.of → IsMarking now node new →
     key ≡ get_or keys (count - 1) 0 → IsLast keys key (count - 1) count' → IsMarkedAt edges keys place count' old new
 marked_at_next edges keys place count count' key node old now new beside some is node_in node_is of_is count_is sized marked_is key_is last =
     let key_place : key ≡ place = key_is ∙ is.here some in
@@ -220,9 +243,9 @@ marked_at_next edges keys place count count' key node old now new beside some is
       count_is = count_is ∙ is.count_is;
       within = omega (arith, last.within, is.within);
       here = λ more. last.here more ∙ key_place;
-      marked = λ u u_in.
-          let m = marks_more now.marked new.marked node (length old.of) u node_in (sized ∙ ap length (of_is ∙ is.of)) marked_is in
-          let old_mark = is.marked u u_in in (
+      marked = λ u u_in apart.
+          let m = marks_apart now new (length old.of) node u node_in (sized ∙ ap length (of_is ∙ is.of)) marked_is (λ alone. apart (subst (λ (o : List ℕ). IsAlone o u) is.of alone)) in
+          let old_mark = is.marked u u_in apart in (
             λ h. elim (m.0 h) [
               | inl same ↦ (count - 1, last.within, entry_in, edge_is ∙ ap (λ n. record { node = n; place = place }) (sym same))
               | inr mark ↦ let a = old_mark.0 mark in (a.0, omega (arith, a.1, last.within), a.2, a.3)
@@ -239,9 +262,9 @@ marked_at_next edges keys place count count' key node old now new beside some is
 
 -- at the first entry all are marked
 pub marked_at_end : (edges : List Edge) (keys : List ℕ) (place count : ℕ) (old now : Parted) → IsMarkedAt edges keys place count old now → count ≤ 0 →
-    (u : ℕ) → u < length old.of → (is_marked now.marked u ≡ true) ↔ Contains edges (record { node = u; place = place })
-marked_at_end edges keys place count old now is none u u_in =
-    let m = is.marked u u_in in (
+    (u : ℕ) → u < length old.of → (IsAlone old.of u → ⊥) → (is_marked now.marked u ≡ true) ↔ Contains edges (record { node = u; place = place })
+marked_at_end edges keys place count old now is none u u_in apart =
+    let m = is.marked u u_in apart in (
       λ h. let a = m.0 h in (a.0, a.2, get_or_default edges a.0 (record { node = u; place = place }) (record { node = 0; place = 0 }) a.2 ∙ a.3),
       λ k. m.1 (k.0, omega arith, k.1, get_or_default edges k.0 (record { node = 0; place = 0 }) (record { node = u; place = place }) k.1 ∙ k.2),
     )
@@ -307,7 +330,7 @@ pub record IsMarkedFrom (keys : List ℕ) (number count : ℕ) (old now : Parted
   pub count_is : now.count ≡ old.count
   pub within : count ≤ length keys
   pub here : 0 < count → get_or keys (count - 1) 0 ≡ number
-  pub marked : (u : ℕ) → u < length old.of → (is_marked now.marked u ≡ true) ↔ ((count ≤ u) × (get_or keys u 0 ≡ number))
+  pub marked : (u : ℕ) → u < length old.of → (IsAlone old.of u → ⊥) → (is_marked now.marked u ≡ true) ↔ ((count ≤ u) × (get_or keys u 0 ≡ number))
 
 pub marked_start : (keys : List ℕ) (number count : ℕ) (old : Parted) → length keys ≡ length old.of → AreFree old → IsLast keys number (length keys) count → IsMarkedFrom keys number count old old
 marked_start keys number count old size free last = record {
@@ -315,10 +338,10 @@ marked_start keys number count old size free last = record {
   count_is = refl;
   within = last.within;
   here = last.here;
-  marked = λ u h. (λ m. absurd (let e : true ≡ false = sym m ∙ free u h in cc), λ k. absurd (last.none_behind u k.0 (omega arith) k.1));
+  marked = λ u h apart. (λ m. absurd (let e : true ≡ false = sym m ∙ free u h in cc), λ k. absurd (last.none_behind u k.0 (omega arith) k.1));
 }
 
-pub marked_next : (keys : List ℕ) (number count count' key : ℕ) (old now new : Parted) → length keys ≡ length old.of → 0 < count → IsMarkedFrom keys number count old now → new.of ≡ now.of → new.count ≡ now.count → length new.marked ≡ length new.of → new.marked ≡ set now.marked (count - 1) true →
+pub marked_next : (keys : List ℕ) (number count count' key : ℕ) (old now new : Parted) → length keys ≡ length old.of → 0 < count → IsMarkedFrom keys number count old now → new.of ≡ now.of → new.count ≡ now.count → length new.marked ≡ length new.of → IsMarking now (count - 1) new →
     key ≡ get_or keys (count - 1) 0 → IsLast keys key (count - 1) count' → IsMarkedFrom keys number count' old new
 marked_next keys number count count' key old now new size some is of_is count_is sized marked_is key_is last =
     let key_number : key ≡ number = key_is ∙ is.here some in
@@ -327,9 +350,9 @@ marked_next keys number count count' key old now new size some is of_is count_is
       count_is = count_is ∙ is.count_is;
       within = omega (arith, last.within, is.within);
       here = λ more. last.here more ∙ key_number;
-      marked = λ u u_in.
-          let m = marks_more now.marked new.marked (count - 1) (length old.of) u (omega (arith, is.within)) (sized ∙ ap length (of_is ∙ is.of)) marked_is in
-          let old_mark = is.marked u u_in in (
+      marked = λ u u_in apart.
+          let m = marks_apart now new (length old.of) (count - 1) u (omega (arith, is.within)) (sized ∙ ap length (of_is ∙ is.of)) marked_is (λ alone. apart (subst (λ (o : List ℕ). IsAlone o u) is.of alone)) in
+          let old_mark = is.marked u u_in apart in (
             λ h. elim (m.0 h) [
               | inl same ↦ (omega (arith, last.within), ap (λ i. get_or keys i 0) same ∙ is.here some)
               | inr mark ↦ let a = old_mark.0 mark in (omega (arith, a.0, last.within), a.1)

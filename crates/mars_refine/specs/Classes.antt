@@ -1,5 +1,5 @@
 -- The classes of nodes, and how marks part them.
-use Rattle.std.specs.Prelude.{◌≡◌, ◌↔◌, ℕ, ◌<◌, ◌≤◌, List, Bool, false, length, Some, slice_get, slice_index_or, Contains}
+use Rattle.std.specs.Prelude.{◌≡◌, ◌↔◌, ◌⊎◌, ℕ, ◌<◌, ◌≤◌, List, Bool, true, false, length, Some, slice_get, slice_set, slice_index_or, Contains}
 use Rattle.mars_refine.specs.Refine.{class_of, Moved}
 
 -- the class of each node, how many classes there are, and which nodes are marked
@@ -11,6 +11,14 @@ pub record Parted : Type 0 where
 -- whether a node is marked
 abbrev pub is_marked : List Bool → ℕ → Bool
 is_marked marked u = slice_index_or marked u false
+
+-- no other node is in the node's class
+abbrev pub IsAlone : List ℕ → ℕ → Type 0
+IsAlone of u = (v : ℕ) → v < length of → class_of of v ≡ class_of of u → v ≡ u
+
+-- one node more is marked, or none where the node is alone
+abbrev pub IsMarking : Parted → ℕ → Parted → Type 0
+IsMarking old node new = (new.marked ≡ slice_set old.marked node true) ⊎ ((new.marked ≡ old.marked) × IsAlone old.of node)
 
 -- each class is parted into its marked nodes and the others, and no node is marked
 pub record IsSplit (old new : Parted) : Type 0 where

@@ -1,8 +1,8 @@
 //! A partition of nodes into classes that are split by marks, the smaller part under a new number (Hopcroft 1971).
 //!
 //! A split costs time linear in the marks. After want of memory the classes hold together and are dropped by the caller.
-ghost use Rattle.std.specs.Prelude.{◌≡◌, ◌⊎◌, ◌<◌, ◌≤◌, ◌+◌, ◌-◌, [], ℕ, true, false, length, slice_set, IfOk, OnOk, OnErr, All, Contains, replicate, slice_range};
-ghost use Rattle.mars_refine.specs.Classes.{Parted, AreEachOnce, AreMembers, IsSplit};
+ghost use Rattle.std.specs.Prelude.{◌≡◌, ◌↔◌, ◌⊎◌, ◌<◌, ◌≤◌, ◌+◌, ◌-◌, [], ℕ, true, false, length, slice_set, IsTrue, IfOk, OnOk, OnErr, All, Contains, replicate, slice_range};
+ghost use Rattle.mars_refine.specs.Classes.{Parted, AreEachOnce, AreMembers, IsAlone, IsMarking, IsSplit};
 ghost use Rattle.mars_refine.specs.ClassesInside.{IsPartedInside, at_place, AreTouched, parted_of, SplitsOne, span_of};
 ghost use Rattle.mars_refine.specs.Refine.{class_of};
 
@@ -90,14 +90,17 @@ impl Classes {
         slice(&self.parts.order, span.start, span.end)
     }
 
-    /// Marks a node, in constant time.
+    /// Marks a node, in constant time. One that is alone in its class needs no mark, since no split parts it.
     pub(crate) fn mark(&mut self, node: u32) -> Result<(), NoMemory>
         requires { node < length self.old.of }
         ensures of { self.new.of ≡ self.old.of }
         ensures count { self.new.count ≡ self.old.count }
         ensures sized { length self.new.marked ≡ length self.new.of }
-        ensures marked { OnOk result (self.new.marked ≡ slice_set self.old.marked node true) }
+        ensures marked { OnOk result (IsMarking self.old node self.new) }
     {
+        if is_alone(&self.parts, node) {
+            return Ok(());
+        }
         touch(&mut self.touched, &self.parts, node)?;
         move_front(&mut self.parts, node);
         Ok(())
@@ -155,6 +158,17 @@ fn slice(numbers: &[u32], from: u32, to: u32) -> &[u32]
     ensures { result.now ≡ slice_range numbers.now from to }
 {
     &numbers[from as usize..to as usize]
+}
+
+/// Whether a node is the only one of its class.
+fn is_alone(parts: &Parts, node: u32) -> bool
+    requires parted { IsPartedInside parts.now }
+    requires node_in { node < length parts.now.of.items }
+    ensures { IsTrue result ↔ IsAlone parts.now.of.items node }
+{
+    let class = parts.of[node as usize];
+    let span = parts.spans[class as usize];
+    span.end - span.start == 1
 }
 
 /// Puts the class of a node into the list, where it isn't there for another node.
