@@ -1,4 +1,5 @@
 pub mod Linking
+pub mod Marking
 pub mod Moving
 pub mod Numbers
 pub mod Parting

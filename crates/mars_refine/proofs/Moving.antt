@@ -270,30 +270,36 @@ module _ (of order place : List ℕ) (spans : List Span) (marked : List Bool) (i
         ],
       )
 
-  -- behind the marked nodes of a class there is room while one of its nodes isn't marked
-  pub room_behind : (node class : ℕ) (span : Span) (mark : Bool) → node < length of → mark ≡ get_or marked node mark → mark ≡ false → class ≡ get_or of node class → span ≡ get_or spans class span → span.middle < span.end
-  room_behind node class span mark node_in mark_is free class_is span_is =
-      let e2 = span_reads node class span node_in class_is span_is in
-      omega (arith, ap (λ (x : Span). x.middle) e2, ap (λ (x : Span). x.end) e2, is.behind node node_in (sym (get_or_read marked node mark (omega (arith, is.marks_size)) mark_is false) ∙ free), is.to_end node node_in)
+  -- what is read of a node that isn't marked
+  module _ (node class at : ℕ) (span : Span) (node_in : node < length of) (class_is : class ≡ get_or of node class) (span_is : span ≡ get_or spans class span) (at_is : at ≡ get_or place node at) where
+    at_read : at ≡ at_place place node
+    at_read = get_or_read place node at (omega (arith, is.ordered.place_size)) at_is 0
 
-  -- the same by what is read
-  pub move_reads : (node class at other : ℕ) (span next : Span) (mark : Bool) → node < length of → mark ≡ get_or marked node mark → mark ≡ false → class ≡ get_or of node class → span ≡ get_or spans class span → at ≡ get_or place node at → other ≡ get_or order span.middle other → next ≡ record { start = span.start; middle = span.middle + 1; end = span.end } →
-      IsParted of (set (set order at other) span.middle node) (set (set place other at) node span.middle) (set spans class next) (set marked node true)
-  move_reads node class at other span next mark node_in mark_is free class_is span_is at_is other_is next_is =
-      let e1 : class ≡ class_of of node = get_or_read of node class node_in class_is 0 in
-      let c_in : class < length spans = omega (arith, is.of_in node node_in) in
-      let e2 : span ≡ span_of spans (class_of of node) = get_or_read spans class span c_in span_is no_span ∙ ap (span_of spans) e1 in
-      let e4 : at ≡ at_place place node = get_or_read place node at (omega (arith, is.ordered.place_size)) at_is 0 in
-      let c_in' : class_of of node < length spans = is.of_in node node_in in
-      let m_in : span.middle < length order = omega (arith, ap (λ (x : Span). x.middle) e2, is.behind node node_in (sym (get_or_read marked node mark (omega (arith, is.marks_size)) mark_is false) ∙ free), is.ordered.place_in node node_in, is.ordered.order_size) in
-      let e5 : other ≡ at_place order span.middle = get_or_read order span.middle other m_in other_is 0 in
-      let e6 : span.middle ≡ (span_of spans (class_of of node)).middle = ap (λ (x : Span). x.middle) e2 in
-      let whole = move_keeps node node_in (sym (get_or_read marked node mark (omega (arith, is.marks_size)) mark_is false) ∙ free) in
-      let P : (c a o : ℕ) (m : ℕ) (g : Span) → Type 0 = λ c a o m g. IsParted of (set (set order a o) m node) (set (set place o a) node m) (set spans c (record { start = g.start; middle = m + 1; end = g.end })) (set marked node true) in
-      let s = span_of spans (class_of of node) in
-      let w1 : P (class_of of node) (at_place place node) (at_place order s.middle) s.middle s = whole in
-      let w2 : P class at (at_place order s.middle) s.middle s = subst (λ (c : ℕ). P c at (at_place order s.middle) s.middle s) (sym e1) (subst (λ (a : ℕ). P (class_of of node) a (at_place order s.middle) s.middle s) (sym e4) w1) in
-      let w3 : P class at (at_place order span.middle) span.middle s = subst (λ (m : ℕ). P class at (at_place order m) m s) (sym e6) w2 in
-      let w4 : P class at other span.middle s = subst (λ (o : ℕ). P class at o span.middle s) (sym e5) w3 in
-      let w5 : P class at other span.middle span = subst (λ (g : Span). P class at other span.middle g) (sym e2) w4 in
-      subst (λ (s : Span). IsParted of (set (set order at other) span.middle node) (set (set place other at) node span.middle) (set spans class s) (set marked node true)) (sym next_is) w5
+    -- before the middle it is marked already
+    pub before_middle : at < span.middle → at_place place node < (span_of spans (class_of of node)).middle
+    before_middle lt = omega (arith, at_read, ap (λ (x : Span). x.middle) (span_reads node class span node_in class_is span_is))
+
+    free_behind : span.middle ≤ at → is_marked marked node ≡ false
+    free_behind le = is_false (is_marked marked node) (λ mark. omega (arith, is.front node node_in mark, at_read, ap (λ (x : Span). x.middle) (span_reads node class span node_in class_is span_is)))
+
+    pub room_behind : span.middle ≤ at → span.middle < span.end
+    room_behind le = omega (arith, at_read, ap (λ (x : Span). x.end) (span_reads node class span node_in class_is span_is), is.to_end node node_in)
+
+    pub move_reads : (other : ℕ) (next : Span) → span.middle ≤ at → other ≡ get_or order span.middle other → next ≡ record { start = span.start; middle = span.middle + 1; end = span.end } →
+        IsParted of (set (set order at other) span.middle node) (set (set place other at) node span.middle) (set spans class next) (set marked node true)
+    move_reads other next le other_is next_is =
+        let e1 : class ≡ class_of of node = get_or_read of node class node_in class_is 0 in
+        let e2 : span ≡ span_of spans (class_of of node) = span_reads node class span node_in class_is span_is in
+        let e4 : at ≡ at_place place node = at_read in
+        let m_in : span.middle < length order = omega (arith, e4, is.ordered.place_in node node_in, is.ordered.order_size) in
+        let e5 : other ≡ at_place order span.middle = get_or_read order span.middle other m_in other_is 0 in
+        let e6 : span.middle ≡ (span_of spans (class_of of node)).middle = ap (λ (x : Span). x.middle) e2 in
+        let whole = move_keeps node node_in (free_behind le) in
+        let P : (c a o : ℕ) (m : ℕ) (g : Span) → Type 0 = λ c a o m g. IsParted of (set (set order a o) m node) (set (set place o a) node m) (set spans c (record { start = g.start; middle = m + 1; end = g.end })) (set marked node true) in
+        let s = span_of spans (class_of of node) in
+        let w1 : P (class_of of node) (at_place place node) (at_place order s.middle) s.middle s = whole in
+        let w2 : P class at (at_place order s.middle) s.middle s = subst (λ (c : ℕ). P c at (at_place order s.middle) s.middle s) (sym e1) (subst (λ (a : ℕ). P (class_of of node) a (at_place order s.middle) s.middle s) (sym e4) w1) in
+        let w3 : P class at (at_place order span.middle) span.middle s = subst (λ (m : ℕ). P class at (at_place order m) m s) (sym e6) w2 in
+        let w4 : P class at other span.middle s = subst (λ (o : ℕ). P class at o span.middle s) (sym e5) w3 in
+        let w5 : P class at other span.middle span = subst (λ (g : Span). P class at other span.middle g) (sym e2) w4 in
+        subst (λ (s : Span). IsParted of (set (set order at other) span.middle node) (set (set place other at) node span.middle) (set spans class s) (set marked node true)) (sym next_is) w5

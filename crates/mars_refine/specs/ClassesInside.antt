@@ -1,5 +1,6 @@
 -- How the nodes of classes are laid out, and the steps of a split.
-use Rattle.std.specs.Prelude.{◌≡◌, ◌≢◌, ◌↔◌, ℕ, ◌<◌, ◌≤◌, List, Bool, true, false, length, slice_index_or, All, Contains}
+use Rattle.std.specs.Prelude.{◌≡◌, ◌≢◌, ◌↔◌, ℕ, ◌<◌, ◌≤◌, List, Bool, true, false, length, map, ltb, slice_index_or, All, Contains}
+use Rattle.std.specs.List.{range_with_len}
 use Rattle.mars_refine.specs.declared.classes.Span.{Span}
 use Rattle.mars_refine.specs.declared.classes.Parts.{Parts}
 use Rattle.mars_refine.specs.Refine.{class_of, Moved}
@@ -37,13 +38,17 @@ pub record IsParted (of order place : List ℕ) (spans : List Span) (marked : Li
   pub front : (u : ℕ) → u < length of → is_marked marked u ≡ true → at_place place u < (span_of spans (class_of of u)).middle
   pub behind : (u : ℕ) → u < length of → is_marked marked u ≡ false → (span_of spans (class_of of u)).middle ≤ at_place place u
 
+-- a node is marked where it stands before the middle of its class
+abbrev pub marks_of : List ℕ → List ℕ → List Span → List Bool
+marks_of of place spans = map (λ u. ltb (at_place place u) (span_of spans (class_of of u)).middle) (range_with_len 0 (length of))
+
 -- the fields of `Parts` are laid out so
 abbrev pub IsPartedInside : Parts → Type 0
-IsPartedInside p = IsParted p.of.items p.order.items p.place.items p.spans.items p.marked.items
+IsPartedInside p = IsParted p.of.items p.order.items p.place.items p.spans.items (marks_of p.of.items p.place.items p.spans.items)
 
 -- what contracts see of the fields
 abbrev pub parted_of : Parts → Parted
-parted_of p = record { of = p.of.items; count = length p.spans.items; marked = p.marked.items }
+parted_of p = record { of = p.of.items; count = length p.spans.items; marked = marks_of p.of.items p.place.items p.spans.items }
 
 -- the classes of the marked nodes are in the list
 pub record AreTouched (p : Parted) (touched : List ℕ) : Type 0 where

@@ -19,14 +19,14 @@ pub struct Classes {
     touched: Vec<u32>,
 }
 
-/// The nodes of a class stand next to each other in `order`, those that are marked in front.
+/// The nodes of a class stand next to each other in `order`, those that are marked in front: a node is marked where its
+/// place is before the middle of its class.
 #[derive(Drop)]
 struct Parts {
     of: Vec<u32>,
     order: Vec<u32>,
     place: Vec<u32>,
     spans: Vec<Span>,
-    marked: Vec<bool>,
 }
 
 /// Where the nodes of a class stand: the marked ones from `start` to `middle`, the others from there to `end`.
@@ -132,7 +132,7 @@ fn numbers_below(alloc: Global, count: u32) -> Result<Vec<u32>, NoMemory>
 fn all_in_one(alloc: Global, count: u32) -> Result<Parts, NoMemory>
     ensures parted { IfOk result (λ p. IsPartedInside p) }
     ensures of { IfOk result (λ p. p.of.items ≡ replicate count 0) }
-    ensures marked { IfOk result (λ p. p.marked.items ≡ replicate count false) }
+    ensures marked { IfOk result (λ p. (parted_of p).marked ≡ replicate count false) }
 {
     let mut spans = Vec::new(alloc);
     if count > 0 {
@@ -147,7 +147,6 @@ fn all_in_one(alloc: Global, count: u32) -> Result<Parts, NoMemory>
         order: numbers_below(alloc, count)?,
         place: numbers_below(alloc, count)?,
         spans,
-        marked: vec![in alloc; false; count as usize]?,
     })
 }
 
@@ -207,22 +206,21 @@ fn move_front(parts: &mut Parts, node: u32)
     ensures parted { IsPartedInside parts.new }
     ensures of { parts.new.of.items ≡ parts.old.of.items }
     ensures count { length parts.new.spans.items ≡ length parts.old.spans.items }
-    ensures marked { parts.new.marked.items ≡ slice_set parts.old.marked.items node true }
+    ensures marked { (parted_of parts.new).marked ≡ slice_set (parted_of parts.old).marked node true }
 {
-    if parts.marked[node as usize] {
-        return;
-    }
     let class = parts.of[node as usize];
     let span = parts.spans[class as usize];
     let middle = span.middle;
     let at = parts.place[node as usize];
+    if at < middle {
+        return;
+    }
     let other = parts.order[middle as usize];
     parts.order[at as usize] = other;
     parts.place[other as usize] = at;
     parts.order[middle as usize] = node;
     parts.place[node as usize] = middle;
     parts.spans[class as usize] = one_marked_more(span);
-    parts.marked[node as usize] = true;
 }
 
 /// The two, the shorter one first.
@@ -269,7 +267,6 @@ fn part_class(parts: &mut Parts, class: usize) -> Result<(), NoMemory>
         slice(&parts.order, less.start, less.end),
         new,
     );
-    write_all(&mut parts.marked, slice(&parts.order, start, middle), false);
     Ok(())
 }
 
@@ -281,13 +278,16 @@ fn unmark_class(parts: &mut Parts, class: usize)
     ensures parted { IsPartedInside parts.new }
     ensures ok { SplitsOne class (parted_of parts.old) (parted_of parts.new) }
 {
-    let Span { start, middle, end } = parts.spans[class];
+    let Span {
+        start,
+        middle: _,
+        end,
+    } = parts.spans[class];
     parts.spans[class] = Span {
         start,
         middle: start,
         end,
     };
-    write_all(&mut parts.marked, slice(&parts.order, start, middle), false);
 }
 
 /// Parts the marked nodes of a class from the others.
