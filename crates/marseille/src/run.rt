@@ -10,8 +10,8 @@ ghost use Rattle.marseille.specs.Ready.{IsReady, IsListed};
 
 use crate::text::{push_answer, push_counts, push_session};
 use mars_base::NoMemory;
-use mars_read::{First, FirstPut};
 use mars_reach::reaches_free;
+use mars_read::{First, FirstPut};
 use mars_table::{Handle, Table};
 use mars_tree::{NameId, Names};
 use std::alloc::Global;
