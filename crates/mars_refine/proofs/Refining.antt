@@ -9,9 +9,6 @@ use Rattle.mars_tree.proofs.Walks.{IsBisimulation, same_from_bisimulation}
 use Rattle.mars_refine.specs.declared.edge.Edge.{Edge}
 use Rattle.mars_refine.specs.Refine.{IsWithout, class_of, Waits, IsRefining, HasKidIn, Moved, IsSplitTo, AreTrees}
 
-pub same_refl : (g : List Node) (u : ℕ) → Same g u g u
-same_refl g u path = refl
-
 pub same_sym : (g : List Node) (u v : ℕ) → Same g u g v → Same g v g u
 same_sym g u v s path = sym (s path)
 

@@ -1,5 +1,5 @@
 -- Classes that are split by marks.
-use Rattle.std.proofs.Common.{◌≡◌, ◌↔◌, ◌⊎◌, ℕ, zero, suc, ◌<◌, ◌≤◌, ◌+◌, ◌-◌, List, ◌∷◌, Bool, true, false, length, get_or, set, drop, add-one, ◌≢◌, replicate, refl, sym, subst, ap, ◌∙◌, arith, inl, inr, Contains, All, length-set}
+use Rattle.std.proofs.Common.{◌≡◌, ◌↔◌, ◌⊎◌, ℕ, zero, suc, ◌<◌, ◌≤◌, ◌+◌, ◌-◌, List, ◌∷◌, Bool, true, false, length, get_or, set, drop, add-one, ◌≢◌, sym, subst, ap, ◌∙◌, arith, inl, inr, Contains, All, length-set}
 use Rattle.std.proofs.lemmas.Bool.{cases_lt, cases_eq}
 use Rattle.std.proofs.lemmas.List.{get_or_default, length-drop, get_or-drop}
 use Rattle.std.proofs.Math.Seq.{drop-cons}
@@ -9,7 +9,6 @@ use Rattle.mars_refine.specs.Refine.{class_of, HasKidIn, IsSplitTo, IsRefining}
 use Rattle.mars_refine.specs.Classes.{Parted, IsSplit, IsSplitBy, AreFree, IsAlone, IsMarking, is_marked}
 use Rattle.mars_refine.specs.Chains.{IsLast}
 use Rattle.mars_refine.specs.Marks.{AreNumbers}
-use Rattle.std.proofs.lemmas.List.{length-replicate, get_or-replicate}
 use Rattle.mars_refine.specs.Edges.{edge_at, AreEdges, AreByPlace, IsEdgeInto, IsWidth}
 use Rattle.std.proofs.lemmas.Option.{slice_get_within}
 use Rattle.mars_refine.proofs.Writing.{set_cases, true_or_false}
@@ -138,9 +137,6 @@ in_cons_there : {X : Type 0} (x : X) (xs : List X) (e : X) → Contains (x ∷ x
 in_cons_there x xs e (zero, within, at) = inl at
 in_cons_there x xs e (suc k, within, at) = inr (k, omega arith, at)
 
-in_cons : {X : Type 0} (x : X) (xs : List X) (e : X) → Contains (x ∷ xs) e ↔ ((x ≡ e) ⊎ Contains xs e)
-in_cons x xs e = (in_cons_there x xs e, λ h. elim h [ inl same ↦ (zero, omega arith, same) | inr rest ↦ (suc rest.0, omega (arith, rest.1), rest.2) ])
-
 -- the first of the edges still to do, and the others
 in_drop : (found : List Edge) (i : ℕ) (e : Edge) → i < length found → Contains (drop i found) e → (edge_at found i ≡ e) ⊎ Contains (drop (i + 1) found) e
 in_drop found i e within there =
@@ -218,18 +214,6 @@ pub record IsMarkedAt (edges : List Edge) (keys : List ℕ) (place count : ℕ) 
   pub here : 0 < count → get_or keys (count - 1) 0 ≡ place
   pub marked : (u : ℕ) → u < length old.of → (IsAlone old.of u → ⊥) → (is_marked now.marked u ≡ true) ↔ ((i : ℕ) × (count ≤ i) × (i < length edges) × (edge_at edges i ≡ record { node = u; place = place }))
 
-pub marked_at_start : (edges : List Edge) (keys : List ℕ) (place count : ℕ) (old : Parted) → AreByPlace edges keys → AreFree old → IsLast keys place (length keys) count → IsMarkedAt edges keys place count old old
-marked_at_start edges keys place count old beside free last = record {
-  of = refl;
-  count_is = refl;
-  within = last.within;
-  here = last.here;
-  marked = λ u h apart. (
-    λ m. absurd (let e : true ≡ false = sym m ∙ free u h in cc),
-    λ k. absurd (last.none_behind k.0 k.1 (omega (arith, k.2, beside.beside)) (beside.each k.0 k.2 ∙ ap (λ (e : Edge). e.place) k.3)),
-  );
-}
-
 pub marked_at_next : (edges : List Edge) (keys : List ℕ) (place count count' key node : ℕ) (old now new : Parted) → AreByPlace edges keys → 0 < count → IsMarkedAt edges keys place count old now → node < length old.of → node ≡ (edge_at edges (count - 1)).node →
     new.of ≡ now.of → new.count ≡ now.count → length new.marked ≡ length new.of → IsMarking now node new →
     key ≡ get_or keys (count - 1) 0 → IsLast keys key (count - 1) count' → IsMarkedAt edges keys place count' old new
@@ -274,16 +258,6 @@ pub record IsByNumbers (numbers : List ℕ) (n k : ℕ) (p : Parted) : Type 0 wh
   pub size : length p.of ≡ n
   pub free : AreFree p
   pub parts : (u v : ℕ) → u < n → v < n → (class_of p.of u ≡ class_of p.of v) ↔ ((get_or numbers u 0 ≡ get_or numbers v 0) ⊎ ((k ≤ get_or numbers u 0) × (k ≤ get_or numbers v 0)))
-
-pub by_numbers_start : (numbers : List ℕ) (n : ℕ) (p : Parted) → p.of ≡ replicate n 0 → p.marked ≡ replicate n false → IsByNumbers numbers n 0 p
-by_numbers_start numbers n p of_is marked_is =
-    let size : length p.of ≡ n = ap length of_is ∙ length-replicate n 0 in
-    let all : (u : ℕ) → u < n → class_of p.of u ≡ 0 = λ u h. ap (λ o. class_of o u) of_is ∙ get_or-replicate n u 0 0 h in
-    record {
-      size = size;
-      free = λ u h. ap (λ m. is_marked m u) marked_is ∙ get_or-replicate n u false false (omega arith);
-      parts = λ u v u_in v_in. (λ e. inr (omega arith, omega arith), λ k. all u u_in ∙ sym (all v v_in));
-    }
 
 pub by_numbers_more : (numbers : List ℕ) (n k : ℕ) (p q : Parted) → IsByNumbers numbers n k p → IsSplitBy (λ u. get_or numbers u 0 ≡ k) p q → IsByNumbers numbers n (k + 1) q
 by_numbers_more numbers n k p q is s = record {
@@ -331,38 +305,3 @@ pub record IsMarkedFrom (keys : List ℕ) (number count : ℕ) (old now : Parted
   pub within : count ≤ length keys
   pub here : 0 < count → get_or keys (count - 1) 0 ≡ number
   pub marked : (u : ℕ) → u < length old.of → (IsAlone old.of u → ⊥) → (is_marked now.marked u ≡ true) ↔ ((count ≤ u) × (get_or keys u 0 ≡ number))
-
-pub marked_start : (keys : List ℕ) (number count : ℕ) (old : Parted) → length keys ≡ length old.of → AreFree old → IsLast keys number (length keys) count → IsMarkedFrom keys number count old old
-marked_start keys number count old size free last = record {
-  of = refl;
-  count_is = refl;
-  within = last.within;
-  here = last.here;
-  marked = λ u h apart. (λ m. absurd (let e : true ≡ false = sym m ∙ free u h in cc), λ k. absurd (last.none_behind u k.0 (omega arith) k.1));
-}
-
-pub marked_next : (keys : List ℕ) (number count count' key : ℕ) (old now new : Parted) → length keys ≡ length old.of → 0 < count → IsMarkedFrom keys number count old now → new.of ≡ now.of → new.count ≡ now.count → length new.marked ≡ length new.of → IsMarking now (count - 1) new →
-    key ≡ get_or keys (count - 1) 0 → IsLast keys key (count - 1) count' → IsMarkedFrom keys number count' old new
-marked_next keys number count count' key old now new size some is of_is count_is sized marked_is key_is last =
-    let key_number : key ≡ number = key_is ∙ is.here some in
-    record {
-      of = of_is ∙ is.of;
-      count_is = count_is ∙ is.count_is;
-      within = omega (arith, last.within, is.within);
-      here = λ more. last.here more ∙ key_number;
-      marked = λ u u_in apart.
-          let m = marks_apart now new (length old.of) (count - 1) u (omega (arith, is.within)) (sized ∙ ap length (of_is ∙ is.of)) marked_is (λ alone. apart (subst (λ (o : List ℕ). IsAlone o u) is.of alone)) in
-          let old_mark = is.marked u u_in apart in (
-            λ h. elim (m.0 h) [
-              | inl same ↦ (omega (arith, last.within), ap (λ i. get_or keys i 0) same ∙ is.here some)
-              | inr mark ↦ let a = old_mark.0 mark in (omega (arith, a.0, last.within), a.1)
-            ],
-            λ k. m.1 (elim (cases_lt u count) [
-              | inl lt ↦ elim (cases_eq u (count - 1)) [
-                | inl same ↦ inl same
-                | inr other ↦ absurd (last.none_behind u k.0 (omega arith) (k.1 ∙ sym key_number))
-              ]
-              | inr le ↦ inr (old_mark.1 (le, k.1))
-            ]),
-          );
-    }

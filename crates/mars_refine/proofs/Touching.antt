@@ -1,5 +1,5 @@
 -- The classes of marked nodes, which are parted one after another.
-use Rattle.std.proofs.Common.{◌≡◌, ◌≢◌, ◌⊎◌, ℕ, zero, suc, ◌<◌, ◌≤◌, List, [], ◌∷◌, ◌++◌, Bool, true, false, length, set, refl, sym, subst, ap, ◌∙◌, arith, inl, inr, Contains}
+use Rattle.std.proofs.Common.{◌≡◌, ◌≢◌, ◌⊎◌, ℕ, zero, suc, ◌<◌, ◌≤◌, List, [], ◌∷◌, ◌++◌, Bool, true, false, length, set, sym, subst, ap, ◌∙◌, arith, inl, inr, Contains}
 use Rattle.std.proofs.lemmas.Bool.{cases_lt, cases_eq}
 use Rattle.std.proofs.lemmas.List.Elements.{Contains-append_left, Contains-push, Contains-push_cases, All-weaker}
 use Rattle.mars_refine.specs.declared.classes.Span.{Span}
@@ -27,16 +27,6 @@ last_contains done class x e = subst (λ (y : ℕ). Contains (done ++ class ∷ 
 
 push_contains : (done : List ℕ) (class x : ℕ) → Contains (done ++ class ∷ []) x → Contains done x ⊎ (class ≡ x)
 push_contains done class x h = Contains-push_cases done class x h
-
-pub split_none : (old : Parted) → SplitsEach [] old old
-split_none old = record {
-  size = refl;
-  more = omega arith;
-  moved = λ u h. inl refl;
-  parts = λ u v u_in v_in. (λ e. (e, λ h. absurd (omega (arith, h.1))), λ k. k.0);
-  others = λ u u_in none. (refl, refl);
-  unmarked = λ u u_in h. absurd (omega (arith, h.1));
-}
 
 -- one class more
 pub split_next : (done : List ℕ) (class : ℕ) (old now new : Parted) → class < old.count → SplitsEach done old now → SplitsOne class now new → SplitsEach (done ++ class ∷ []) old new
