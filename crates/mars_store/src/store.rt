@@ -148,6 +148,15 @@ impl Store {
         self.nodes.kid(last.0, place)
     }
 
+    /// The equation at a place of the trail, counted from 0 in the order of binding.
+    pub fn equation(&self, place: usize) -> (NodeId, NodeId)
+        requires { place < length self.now.bound }
+        ensures { slice_get self.now.bound place ≡ Some result }
+    {
+        let (variable, node) = self.trail[place];
+        (NodeId(variable), NodeId(node))
+    }
+
     /// The present state.
     pub fn mark(&self) -> Mark
         ensures mark { result ≡ mark_of self.now }
