@@ -7,12 +7,12 @@ use Rattle.mars_tree.specs.Canonical.{IsCanonical, SameRoots, known_with, known_
 use Rattle.std.proofs.lemmas.Option.{option_and_then_some}
 use Rattle.mars_tree.proofs.Numbering.{known_with_cases}
 use Rattle.mars_tree.proofs.Unique.{known_first, one_from_same_roots, one_from_same_walks}
-use Rattle.mars_canon.specs.Canon.{Rooted, IsCanon, AreAlike, HaveSameTrees, rooted_writes}
+use Rattle.mars_canon.specs.Canon.{Rooted, IsCanon, HaveAlikeWalks, HaveSameTrees, rooted_writes}
 use Rattle.mars_canon.specs.CanonLaws.{one_rooted}
 use Rattle.mars_canon.specs.Tree.{IsTree, IsSameTree, tree_writes}
 use Rattle.mars_canon.specs.Laws.{OneFormOfWalks, OneFormOfTrees, SameTreesHashAlike, AlikeWalksHashAlike, OneTree, SameTreeHashesAlike}
 
-alike_itself : (c : Rooted) → AreAlike c c
+alike_itself : (c : Rooted) → HaveAlikeWalks c c
 alike_itself c = record { count = refl; walks = record { shown = λ walk. refl; together = λ walk other. (λ t. t, λ t. t) } }
 
 same_itself : (g : List Node) (roots : List ℕ) → SameRoots g roots g roots
@@ -21,7 +21,7 @@ same_itself g (root ∷ roots) = (λ path. refl, same_itself g roots)
 
 pub one_form_of_walks : OneFormOfWalks
 one_form_of_walks c d left right = (
-  λ e. subst (AreAlike c) e (alike_itself c),
+  λ e. subst (HaveAlikeWalks c) e (alike_itself c),
   λ alike. let t = one_from_same_walks c.nodes d.nodes c.roots d.roots left.graph right.graph left.canonical right.canonical alike.count alike.walks in one_rooted c d t.0 t.1,
 )
 
@@ -47,7 +47,7 @@ pub same_tree_hashes_alike : SameTreeHashesAlike
 same_tree_hashes_alike g h left right same = ap tree_writes ((one_tree g h left right).1 same)
 
 -- a test that decides whether two are one decides what is said of their trees
-pub walks_decided : (c d : Rooted) (test : Bool) → IsCanon c → IsCanon d → Decides test (c ≡ d) → Decides test (AreAlike c d)
+pub walks_decided : (c d : Rooted) (test : Bool) → IsCanon c → IsCanon d → Decides test (c ≡ d) → Decides test (HaveAlikeWalks c d)
 walks_decided c d test left right one = (λ t. (one_form_of_walks c d left right).0 (one.0 t), λ alike. one.1 ((one_form_of_walks c d left right).1 alike))
 
 pub trees_decided : (c d : Rooted) (test : Bool) → IsCanon c → IsCanon d → Decides test (c ≡ d) → Decides test (HaveSameTrees c d)

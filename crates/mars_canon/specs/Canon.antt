@@ -18,7 +18,7 @@ pub record IsCanon (c : Rooted) : Type 0 where
   pub roots_in : All (λ root. root < length c.nodes) c.roots
 
 -- equally many roots, and walks that show the same and end together
-pub record AreAlike (c d : Rooted) : Type 0 where
+pub record HaveAlikeWalks (c d : Rooted) : Type 0 where
   pub count : length c.roots ≡ length d.roots
   pub walks : SameWalks c.nodes c.roots d.nodes d.roots
 

@@ -11,10 +11,10 @@ use Rattle.mars_canon.specs.Tree.{most_nodes}
 abbrev pub labels_of : Inside → List (Option Label)
 labels_of t = map Some t.labels.items
 
-abbrev pub tree_of : Inside → List Node
-tree_of t = nodes_of (labels_of t) t.kids.items
+abbrev pub tree_nodes : Inside → List Node
+tree_nodes t = nodes_of (labels_of t) t.kids.items
 
 pub record HoldsTree (t : Inside) : Type 0 where
   pub laid : IsLaid (labels_of t) t.starts.items t.kids.items
-  pub canonical : IsCanonical (tree_of t) (0 ∷ [])
+  pub canonical : IsCanonical (tree_nodes t) (0 ∷ [])
   pub few : length t.labels.items ≤ most_nodes

@@ -1,7 +1,7 @@
 //! The one form of a graph: the smallest graph of its roots' trees, numbered breadth first.
 ghost use Rattle.std.specs.Prelude.{◌≡◌, ◌<◌, ◌≤◌, length, IfOk, All};
 ghost use Rattle.mars_tree.specs.Canonical.{IsCanonical, KeepsWalks};
-ghost use Rattle.mars_reach.specs.Part.{AreApart};
+ghost use Rattle.mars_reach.specs.Part.{IsReduced};
 
 use crate::rooted::Canon;
 use mars_base::NoMemory;
@@ -14,7 +14,7 @@ use std::alloc::Global;
 /// of node 1 and so on. Linear in the roots and in the kids of what is reached. The error is want of memory alone.
 fn numbered(alloc: Global, graph: &Graph, roots: &[usize]) -> Result<Canon, NoMemory>
     requires roots_in { All (λ root. root < length graph.now) roots.now }
-    requires apart { AreApart graph.now }
+    requires apart { IsReduced graph.now }
     ensures keeps { IfOk result (λ c. KeepsWalks graph.now roots.now c.nodes c.roots) }
     ensures small { IfOk result (λ c. length c.nodes ≤ length graph.now) }
 {

@@ -115,7 +115,7 @@ impl Canon {
 }
 
 impl PartialEq for Canon {
-    ghost use Rattle.mars_canon.specs.Canon.{same_rooted, AreAlike, HaveSameTrees};
+    ghost use Rattle.mars_canon.specs.Canon.{same_rooted, HaveAlikeWalks, HaveSameTrees};
     ghost use Rattle.mars_canon.specs.CanonLaws.{rooted_partial_equivalence};
 
     ghost eq = { same_rooted };
@@ -127,7 +127,7 @@ impl PartialEq for Canon {
     fn eq(&self, other: &Canon) -> bool
         ensures value { result ≡ same_rooted self.now other.now }
         ensures same { IsTrue result ↔ (self.now ≡ other.now) }
-        ensures walks { IsTrue result ↔ AreAlike self.now other.now }
+        ensures walks { IsTrue result ↔ HaveAlikeWalks self.now other.now }
         ensures trees { IsTrue result ↔ HaveSameTrees self.now other.now }
     {
         self.graph == other.graph && self.roots.as_slice() == other.roots.as_slice()

@@ -35,9 +35,9 @@ impl Model for Tree {
 
     ghost Value = { List Node };
 
-    ghost use Rattle.mars_canon.specs.TreeInside.{tree_of, HoldsTree};
+    ghost use Rattle.mars_canon.specs.TreeInside.{tree_nodes, HoldsTree};
 
-    ghost view = { tree_of };
+    ghost view = { tree_nodes };
 
     ghost invariant = { HoldsTree };
 }

@@ -12,7 +12,7 @@ use Rattle.mars_tree.proofs.Paths.{kid_in, kids_from_label}
 use Rattle.mars_refine.specs.Refine.{class_of, AreTrees}
 use Rattle.mars_refine.proofs.Refining.{same_shown, same_label, same_kids}
 use Rattle.mars_reach.specs.Image.{IsImage}
-use Rattle.mars_reach.specs.Order.{moved, renumbered}
+use Rattle.mars_reach.specs.Order.{renumbered_node, renumbered}
 use Rattle.mars_reach.specs.Part.{ShowsPart}
 use Rattle.mars_reach.proofs.Images.{keeps_transitive, image_apart, image_graph, image_keeps, image_reached, image_roots_in, image_small}
 use Rattle.mars_reach.proofs.Flat.{AreLaid, IsPushed, laid_push, laid_size, laid_nodes, laid_below}
@@ -51,12 +51,12 @@ module _ (g : List Node) (of : List ℕ) (graph : IsGraph g) (trees : AreTrees g
   quotient_image count labels kids firsts below =
       let nodes = firsts.nodes in
       let h : List Node = renumbered g (class_of of) nodes in
-      let size : length h ≡ count = length-map nodes (moved g (class_of of)) ∙ firsts.size in
+      let size : length h ≡ count = length-map nodes (renumbered_node g (class_of of)) ∙ firsts.size in
       let first = λ (c : ℕ) (lt : c < count).
       let at : slice_get nodes c ≡ Some (get_or nodes c 0) = slice_get-get_or nodes c 0 (omega (arith, lt, firsts.size)) in at in
       let first_in = λ (c : ℕ) (lt : c < count). let in_range : get_or nodes c 0 < length g = All-slice_get (λ n. n < length g) nodes c (get_or nodes c 0) firsts.in_range (first c lt) in in_range in
       let first_class = λ (c : ℕ) (lt : c < count). let is : class_of of (get_or nodes c 0) ≡ c = firsts.classes c (get_or nodes c 0) (first c lt) in is in
-      let node = λ (c : ℕ) (lt : c < count). let is : get_or h c free_leaf ≡ moved g (class_of of) (get_or nodes c 0) = node_at g (class_of of) nodes c (get_or nodes c 0) (first c lt) in is in
+      let node = λ (c : ℕ) (lt : c < count). let is : get_or h c free_leaf ≡ renumbered_node g (class_of of) (get_or nodes c 0) = node_at g (class_of of) nodes c (get_or nodes c 0) (first c lt) in is in
       let image : IsImage g (λ n. n < length g) (class_of of) h = record {
         in_range = λ u u_in. u_in;
         closed = λ u k kid u_in e. kid_in g u k kid graph u_in e;

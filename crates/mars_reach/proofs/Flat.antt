@@ -10,7 +10,7 @@ use Rattle.mars_tree.specs.declared.label.Label.{Label}
 use Rattle.mars_tree.specs.Graph.{Node, IsGraph, arity_at, label_of, kids_of}
 use Rattle.mars_tree.specs.Stored.{kid_count, nodes_of}
 use Rattle.mars_tree.proofs.Graphs.{node_in}
-use Rattle.mars_reach.specs.Order.{moved, renumbered}
+use Rattle.mars_reach.specs.Order.{renumbered_node, renumbered}
 
 -- the kids of a node, under other numbers
 abbrev pub numbered_kids : List Node → (ℕ → ℕ) → ℕ → List ℕ
@@ -41,8 +41,8 @@ module _ (g : List Node) (number : ℕ → ℕ) (graph : IsGraph g) where
       let more : List ℕ = flat_map (numbered_kids g number) nodes in
       let here : length ks ≡ arity_at l = kids_fit n (All-head (λ n. n < length g) n nodes all) in
       ap (λ (xs : List ℕ). let node : Node = record { label = l; kids = xs } in node ∷ nodes_of (map (label_of g) nodes) (drop (arity_at l) (ks ++ more))) (take-front (arity_at l) ks more here)
-      ∙ ap (λ (xs : List ℕ). moved g number n ∷ nodes_of (map (label_of g) nodes) xs) (drop-front (arity_at l) ks more here)
-      ∙ ap (λ (ns : List Node). moved g number n ∷ ns) (flat_nodes nodes (All-tail (λ n. n < length g) n nodes all))
+      ∙ ap (λ (xs : List ℕ). renumbered_node g number n ∷ nodes_of (map (label_of g) nodes) xs) (drop-front (arity_at l) ks more here)
+      ∙ ap (λ (ns : List Node). renumbered_node g number n ∷ ns) (flat_nodes nodes (All-tail (λ n. n < length g) n nodes all))
 
 -- the kids lie below a count
 pub flat_below : (g : List Node) (number : ℕ → ℕ) (count : ℕ) (nodes : List ℕ) → All (λ n. All (λ kid. number kid < count) (kids_of g n)) nodes → All (λ kid. kid < count) (flat_map (numbered_kids g number) nodes)

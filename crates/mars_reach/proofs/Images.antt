@@ -11,7 +11,7 @@ use Rattle.mars_tree.proofs.Graphs.{node_in}
 use Rattle.mars_tree.proofs.Paths.{label_from_stands}
 use Rattle.mars_reach.specs.Image.{IsImage}
 use Rattle.mars_reach.specs.Order.{IsReached}
-use Rattle.mars_reach.specs.Part.{AreApart}
+use Rattle.mars_reach.specs.Part.{IsReduced}
 use Rattle.mars_reach.proofs.Numbers.{All-from_gets, All-slice_get, onto_small}
 
 -- a graph keeps what a graph kept that it keeps
@@ -100,7 +100,7 @@ module _ (g : List Node) (In : ℕ → Type 0) (number : ℕ → ℕ) (h : List 
       )
 
   -- where the numbers tell all trees apart, no two nodes are the same tree
-  pub image_apart : ((u v : ℕ) → In u → In v → Same g u g v → number u ≡ number v) → AreApart h
+  pub image_apart : ((u v : ℕ) → In u → In v → Same g u g v → number u ≡ number v) → IsReduced h
   image_apart tells i j i_in j_in s =
       let a = is.onto i i_in in let b = is.onto j j_in in
       let same : Same h (number a.0) h (number b.0) = subst (λ (n : ℕ). Same h n h (number b.0)) (sym a.2) (subst (λ (m : ℕ). Same h i h m) (sym b.2) s) in

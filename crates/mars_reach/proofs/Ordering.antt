@@ -10,7 +10,7 @@ use Rattle.std.proofs.lemmas.List.Elements.{Contains-append_right}
 use Rattle.mars_tree.specs.Graph.{Node, kids_of}
 use Rattle.mars_tree.specs.Canonical.{mentions, known_with, known_after}
 use Rattle.mars_tree.proofs.Numbering.{known_with_cases}
-use Rattle.mars_reach.specs.Order.{met_after, place_in, moved, renumbered, IsQueue, FirstInOrder}
+use Rattle.mars_reach.specs.Order.{met_after, place_in, renumbered_node, renumbered, IsQueue, FirstInOrder}
 
 -- what is known is the next number, or one before it
 known_below : (known x : ℕ) → x < known → known_with known x ≡ Some known
@@ -107,7 +107,7 @@ mentions-renumbered g roots order ns =
 
 pub order_is_canonical : (g : List Node) (roots order : List ℕ) → IsQueue g roots order → FirstInOrder (renumbered g (place_in order) order) (map (place_in order) roots)
 order_is_canonical g roots order queue =
-    let node : ℕ → Node = moved g (place_in order) in
+    let node : ℕ → Node = renumbered_node g (place_in order) in
     let xs : List ℕ = roots ++ flat_map (kids_of g) order in
     record {
       in_order =

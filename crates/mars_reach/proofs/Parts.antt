@@ -5,7 +5,7 @@ use Rattle.std.proofs.lemmas.List.{get_or-map, length-map}
 use Rattle.std.proofs.lemmas.List.Elements.{All-contains}
 use Rattle.mars_tree.specs.Graph.{Node, IsGraph, kids_of, free_leaf, Same}
 use Rattle.mars_reach.specs.Image.{IsImage}
-use Rattle.mars_reach.specs.Order.{place_in, moved, renumbered, AreDistinct, IsReach, IsReached}
+use Rattle.mars_reach.specs.Order.{place_in, renumbered_node, renumbered, AreDistinct, IsReach, IsReached}
 use Rattle.mars_reach.specs.Part.{IsClosed, IsPart, ShowsPart}
 use Rattle.mars_reach.proofs.Images.{image_apart, image_graph, image_keeps, image_reached, image_roots_in, image_small}
 use Rattle.mars_reach.proofs.Numbers.{All-from_gets, All-slice_get, contains_at}
@@ -13,9 +13,9 @@ use Rattle.mars_reach.proofs.Ordering.{order_is_canonical}
 use Rattle.mars_reach.proofs.Queues.{place_get, queue_closed, roots_met}
 
 -- the node at the place of an element
-pub node_at : (g : List Node) (number : ℕ → ℕ) (order : List ℕ) (k n : ℕ) → slice_get order k ≡ Some n → get_or (renumbered g number order) k free_leaf ≡ moved g number n
+pub node_at : (g : List Node) (number : ℕ → ℕ) (order : List ℕ) (k n : ℕ) → slice_get order k ≡ Some n → get_or (renumbered g number order) k free_leaf ≡ renumbered_node g number n
 node_at g number order k n e =
-    get_or-map (moved g number) order k 0 free_leaf (slice_get_within order k n e) ∙ ap (moved g number) (get_or_from_slice_get order k n 0 e)
+    get_or-map (renumbered_node g number) order k 0 free_leaf (slice_get_within order k n e) ∙ ap (renumbered_node g number) (get_or_from_slice_get order k n 0 e)
 
 -- places among distinct numbers are those at which they stand
 pub place_is : (order : List ℕ) (k n : ℕ) → AreDistinct order → slice_get order k ≡ Some n → place_in order n ≡ k
@@ -23,7 +23,7 @@ place_is order k n distinct e = distinct (place_in order n) k n (place_get order
 
 module _ (g : List Node) (order : List ℕ) (distinct : AreDistinct order) (in_range : All (λ n. n < length g) order) (closed : IsClosed g order) where
   count : length (renumbered g (place_in order) order) ≡ length order
-  count = length-map order (moved g (place_in order))
+  count = length-map order (renumbered_node g (place_in order))
 
   kid_in : (u k kid : ℕ) → Contains order u → slice_get (kids_of g u) k ≡ Some kid → Contains order kid
   kid_in u k kid u_in e = All-slice_get (Contains order) (kids_of g u) k kid (All-contains (λ n. All (Contains order) (kids_of g n)) order u closed u_in) e

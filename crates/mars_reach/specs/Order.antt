@@ -39,12 +39,12 @@ pub record IsReach (g : List Node) (roots order : List ℕ) : Type 0 where
   pub reached : All (IsReached g roots) order
 
 -- a node under other numbers
-abbrev pub moved : List Node → (ℕ → ℕ) → ℕ → Node
-moved g number n = record { label = label_of g n; kids = map number (kids_of g n) }
+abbrev pub renumbered_node : List Node → (ℕ → ℕ) → ℕ → Node
+renumbered_node g number n = record { label = label_of g n; kids = map number (kids_of g n) }
 
 -- the nodes of a list, under other numbers
 abbrev pub renumbered : List Node → (ℕ → ℕ) → List ℕ → List Node
-renumbered g number order = map (moved g number) order
+renumbered g number order = map (renumbered_node g number) order
 
 -- numbers first appear in order, each before the kids of its own node
 pub record FirstInOrder (g : List Node) (roots : List ℕ) : Type 0 where

@@ -9,8 +9,8 @@ abbrev pub IsClosed : List Node → List ℕ → Type 0
 IsClosed g nodes = All (λ n. All (Contains nodes) (kids_of g n)) nodes
 
 -- no two nodes are the same tree
-abbrev pub AreApart : List Node → Type 0
-AreApart g = (i j : ℕ) → i < length g → j < length g → Same g i g j → i ≡ j
+abbrev pub IsReduced : List Node → Type 0
+IsReduced g = (i j : ℕ) → i < length g → j < length g → Same g i g j → i ≡ j
 
 -- `h` with the roots `others` is the part of `g` that the roots reach, in the order of a walk over a queue
 pub record IsPart (g : List Node) (roots : List ℕ) (h : List Node) (others : List ℕ) : Type 0 where
@@ -26,4 +26,4 @@ pub record ShowsPart (g : List Node) (roots : List ℕ) (h : List Node) (others 
   pub numbered : FirstInOrder h others
   pub roots_in : All (λ root. root < length h) others
   pub small : length h ≤ length g
-  pub apart : AreApart g → AreApart h
+  pub apart : IsReduced g → IsReduced h

@@ -10,7 +10,7 @@ mod roots;
 pub use free::reaches_free;
 pub use order::Order;
 pub use queue::reached;
-pub use renumber::{Rooted, part, rooted_part};
+pub use renumber::{RootedGraph, part, rooted_part};
 pub use roots::Roots;
 
 #[cfg(test)]

@@ -13,7 +13,7 @@ use std::alloc::Global;
 
 /// A graph with its roots.
 #[derive(Drop)]
-pub struct Rooted {
+pub struct RootedGraph {
     pub graph: Graph,
     pub roots: Roots,
 }
@@ -52,7 +52,7 @@ pub fn part(alloc: Global, graph: &Graph, order: &Order) -> Result<Graph, NoMemo
 
 /// The part of a graph that roots reach, breadth first from the roots, and where the roots stand in it. Linear in the
 /// roots and in the kids of what is reached, whatever the size of the graph. The error is want of memory alone.
-pub fn rooted_part(alloc: Global, graph: &Graph, roots: &[usize]) -> Result<Rooted, NoMemory>
+pub fn rooted_part(alloc: Global, graph: &Graph, roots: &[usize]) -> Result<RootedGraph, NoMemory>
     requires { All (λ root. root < length graph.now) roots.now }
     ensures part { IfOk result (λ p. IsPart graph.now roots.now p.graph p.roots) }
     ensures graph { IfOk result (λ p. IsGraph p.graph) }
@@ -62,7 +62,7 @@ pub fn rooted_part(alloc: Global, graph: &Graph, roots: &[usize]) -> Result<Root
     let mut places = Vec::new(alloc);
     push_places(&order, roots, &mut places)?;
     let graph = part(alloc, graph, &order)?;
-    Ok(Rooted {
+    Ok(RootedGraph {
         graph,
         roots: Roots::from_list(places),
     })

@@ -1,7 +1,7 @@
 //! What roots reach, on worked graphs.
 ghost use Rattle.std.specs.Prelude.{◌≡◌, ◌<◌, length, IfOk, IsTrue, All};
 
-use crate::{Order, Rooted, reached, reaches_free, rooted_part};
+use crate::{Order, RootedGraph, reached, reaches_free, rooted_part};
 use mars_base::NoMemory;
 use mars_tree::{Graph, Label, NameId};
 use std::alloc::Global;
@@ -35,7 +35,7 @@ fn are_below(numbers: &[usize], count: usize) -> bool
 }
 
 /// The part that roots reach, where they are nodes.
-fn part_of<R: Abort + AllocGlobal>(rt: &R, graph: &Graph, roots: &[usize]) -> Result<Rooted, Fail> {
+fn part_of<R: Abort + AllocGlobal>(rt: &R, graph: &Graph, roots: &[usize]) -> Result<RootedGraph, Fail> {
     assert!(rt; are_below(roots, graph.len()), "roots are nodes");
     Ok(rooted_part(rt.alloc(), graph, roots)?)
 }

@@ -3,20 +3,20 @@ use Rattle.std.proofs.Common.{◌≡◌, ℕ, ◌^◌, ◌-◌, ◌<◌, ◌≤�
 use Rattle.std.specs.Prelude.{codes}
 use Rattle.std.specs.List.{AllZip}
 use Rattle.std.proofs.lemmas.List.{length-map}
-use Rattle.mars_tree.specs.Names.{built_in_names, number_of, known_with}
+use Rattle.mars_tree.specs.Names.{built_in_names, name_number, with_text}
 use Rattle.mars_tree.specs.Graph.{Node}
 use Rattle.mars_tree.specs.declared.label.NameId.{NameId}
 use Rattle.mars_read.specs.declared.first.First.{First}
 use Rattle.mars_read.specs.declared.first.FirstPut.{FirstPut}
 use Rattle.mars_read.specs.Token.{Token}
 use Rattle.mars_read.specs.Token as token
-use Rattle.mars_read.specs.Written.{Written, Tree, Put, names_in, names_of_definitions, names_of_tree, names_of_puts}
+use Rattle.mars_read.specs.Written.{Written, WrittenTree, WrittenPut, names_in, names_of_definitions, names_of_tree, names_of_puts}
 use Rattle.mars_read.specs.Meaning.{IsTreeOf}
-use Rattle.mars_read.specs.Built.{Built, nothing, Stands, Defines, graph_of, redirected}
+use Rattle.mars_read.specs.Built.{Built, empty_built, Stands, Defines, graph_of, redirected}
 use Rattle.mars_read.specs.Grammar.{IsPut, put, ArePuts, no_puts, puts, IsScript, empty, session}
 use Rattle.mars_read.specs.Machine.{Head, Stack, InTree, Starts, Ruled, Named, Commands, Puts, Wants, Has, step, run}
 use Rattle.mars_read.specs.First.{known_all, IsNameOf, IsPutOf, IsSessionOf, nodes_in}
-use Rattle.mars_read.specs.Reading.{between, view, ReadsTerm, ReadsRest, ReadsPut, ReadsPuts, ReadsSession, ReadsScript, IsNotNext, IsNoName, IsLeft}
+use Rattle.mars_read.specs.Reading.{between, view, ReadsTerm, ReadsRest, ReadsPut, ReadsPuts, ReadsSession, ReadsScript, IsNotNext, IsNoName, HasMore}
 use Rattle.mars_read.proofs.Naming.{Grows, grows-all, known-all-append, known-length, name-stays, name-listed, puts-stay, zip-push, zip-length}
 use Rattle.mars_read.proofs.Complete.{word-runs, puts-run}
 use Rattle.mars_read.proofs.Refused.{no-command-more, no-word, not-done, no-session-name}
@@ -25,27 +25,27 @@ use Rattle.mars_read.proofs.Standing.{defines-nothing}
 shorter : {tokens rest : List Token} (first : Token) → tokens ≡ first ∷ rest → length tokens ≡ length rest + 1
 shorter {tokens} {rest} first e = let h : length tokens ≡ length (first ∷ rest) = ap length e in omega arith
 
-known-room : (names known : List (List ℕ)) (text : List ℕ) → known ≡ known_with text names → length known ≤ length names + 1
-known-room names known text e = let h : length known ≡ length (known_with text names) = ap length e in omega (arith, known-length text names)
+known-room : (names known : List (List ℕ)) (text : List ℕ) → known ≡ with_text text names → length known ≤ length names + 1
+known-room names known text e = let h : length known ≡ length (with_text text names) = ap length e in omega (arith, known-length text names)
 
-listed : (names known : List (List ℕ)) (text : List ℕ) (id : NameId) → known ≡ known_with text names → id.0 ≡ number_of text names → IsNameOf known text id
+listed : (names known : List (List ℕ)) (text : List ℕ) (id : NameId) → known ≡ with_text text names → id.0 ≡ name_number text names → IsNameOf known text id
 listed names known text id e is = subst (λ (l : List (List ℕ)). IsNameOf l text id) (sym e) (name-listed text names id.0 is)
 
--- behind the TERM of a TREE nothing is defined yet
-pub nothing-defined : (inner after : List Token) (known : List (List ℕ)) {middle : List (List ℕ)} {b : Built} {node : ℕ} → ReadsTerm (view inner known nothing) (view after middle b) node → Defines middle b []
+-- behind the TERM of a TREE empty_built is defined yet
+pub nothing-defined : (inner after : List Token) (known : List (List ℕ)) {middle : List (List ℕ)} {b : Built} {node : ℕ} → ReadsTerm (view inner known empty_built) (view after middle b) node → Defines middle b []
 nothing-defined inner after known term = term.keeps.defines [] (defines-nothing known)
 
 -- a command, from its name, its tree and its semicolon
 module _ {tokens inner after : List Token} (known : List (List ℕ)) {middle : List (List ℕ)} {b : Built} (text : List ℕ) {node : ℕ}
-    (e : tokens ≡ token.Name text ∷ inner) (term : ReadsTerm (view inner known nothing) (view after middle b) node) where
-  pub put-unended : ((h : Head) (t : Written) → run after (Has t (InTree h)) ≡ None) → (s : List ℕ) (ps : List Put) → run tokens (Puts s ps) ≡ None
+    (e : tokens ≡ token.Name text ∷ inner) (term : ReadsTerm (view inner known empty_built) (view after middle b) node) where
+  pub put-unended : ((h : Head) (t : Written) → run after (Has t (InTree h)) ≡ None) → (s : List ℕ) (ps : List WrittenPut) → run tokens (Puts s ps) ≡ None
   unfolding run step
   put-unended refused s ps =
       ap (λ l. run l (Puts s ps)) e ∙ term.runs (InTree (record { session = s; puts = ps; name = text })) ∙ refused (record { session = s; puts = ps; name = text }) term.written
 
-  pub reads-put : (names : List (List ℕ)) {rest : List Token} {all : List (List ℕ)} {c : Built} → known ≡ known_with text names → (id : NameId) → id.0 ≡ number_of text names → (end : ReadsRest (view after middle b) (view rest all c)) → {graph : List Node} {root : ℕ} →
+  pub reads-put : (names : List (List ℕ)) {rest : List Token} {all : List (List ℕ)} {c : Built} → known ≡ with_text text names → (id : NameId) → id.0 ≡ name_number text names → (end : ReadsRest (view after middle b) (view rest all c)) → {graph : List Node} {root : ℕ} →
       graph ≡ graph_of c → root < length graph →
-      ((ns : List (List ℕ)) (tree : Tree) → Stands ns c node tree.term → Defines ns c tree.definitions → IsTreeOf ns tree graph root) →
+      ((ns : List (List ℕ)) (tree : WrittenTree) → Stands ns c node tree.term → Defines ns c tree.definitions → IsTreeOf ns tree graph root) →
       ReadsPut (between tokens rest names all) (record { name = id; graph = graph; root = root })
   reads-put names {rest} {all} {c} known_is id id_is end {graph} {root} graph_is root_in shows =
       let term_names : middle ≡ known_all (names_in term.written) known = term.names_are in
@@ -70,7 +70,7 @@ module _ {tokens inner after : List Token} (known : List (List ℕ)) {middle : L
 
 -- a command whose TERM is refused
 pub put-without : {tokens inner : List Token} (text : List ℕ) → tokens ≡ token.Name text ∷ inner →
-    ((k : Stack) → run inner (Wants k) ≡ None) → (s : List ℕ) (ps : List Put) → run tokens (Puts s ps) ≡ None
+    ((k : Stack) → run inner (Wants k) ≡ None) → (s : List ℕ) (ps : List WrittenPut) → run tokens (Puts s ps) ≡ None
 unfolding run step
 put-without text e refused s ps = ap (λ l. run l (Puts s ps)) e ∙ refused (InTree (record { session = s; puts = ps; name = text }))
 
@@ -88,12 +88,12 @@ reads-none tokens names = record {
   room = omega arith;
 }
 
-pub puts-push : {ts us : List Token} {ps : List Put} {p : Put} → ArePuts ts ps → IsPut us p → ArePuts (ts ++ us) (ps ++ p ∷ [])
+pub puts-push : {ts us : List Token} {ps : List WrittenPut} {p : WrittenPut} → ArePuts ts ps → IsPut us p → ArePuts (ts ++ us) (ps ++ p ∷ [])
 puts-push {us = us} {p = p} no_puts is = subst (λ (l : List Token). ArePuts l (p ∷ [])) (append-nil us) (puts is no_puts)
 puts-push {us = us} {p = q} (puts {ts} {us = vs} {p} {ps} first are) is =
     subst (λ (l : List Token). ArePuts l (p ∷ (ps ++ q ∷ []))) (sym (append_assoc ts vs us)) (puts first (puts-push are is))
 
-names-push : (ps : List Put) (p : Put) → names_of_puts (ps ++ p ∷ []) ≡ names_of_puts ps ++ (p.name ∷ names_of_tree p.tree)
+names-push : (ps : List WrittenPut) (p : WrittenPut) → names_of_puts (ps ++ p ∷ []) ≡ names_of_puts ps ++ (p.name ∷ names_of_tree p.tree)
 names-push [] p = append-nil (p.name ∷ names_of_tree p.tree)
 names-push (q ∷ ps) p = ap (λ l. (q.name ∷ names_of_tree q.tree) ++ l) (names-push ps p) ∙ sym (append_assoc (q.name ∷ names_of_tree q.tree) (names_of_puts ps) (p.name ∷ names_of_tree p.tree))
 
@@ -139,7 +139,7 @@ module _ {tokens rest : List Token} {names known : List (List ℕ)} {done : List
   reads-ended ended = subst (λ (l : List Token). ReadsPuts (between tokens l names known) done) ended so_far
 
   pub put-refused : {inner : List Token} → length done < 256 → rest ≡ token.Name (codes "put") ∷ inner →
-      ((s : List ℕ) (ps : List Put) → run inner (Puts s ps) ≡ None) → (s : List ℕ) → run tokens (Commands s []) ≡ None
+      ((s : List ℕ) (ps : List WrittenPut) → run inner (Puts s ps) ≡ None) → (s : List ℕ) → run tokens (Commands s []) ≡ None
   put-refused {inner} few word refused s = runs-on s ∙ ap (λ l. run l (Commands s so_far.written)) word
       ∙ word-runs inner s so_far.written (omega (arith, as-long)) ∙ refused s so_far.written
 
@@ -154,7 +154,7 @@ module _ {tokens a : List Token} (begins : tokens ≡ token.Session ∷ a) where
   session-without text named refused open_ = ap (λ l. run l Ruled) begins ∙ ap (λ l. run l Named) named ∙ refused text
 
   pub reads-session : {b rest : List Token} (text : List ℕ) (names known : List (List ℕ)) {all : List (List ℕ)} (id : NameId) {done : List FirstPut} → a ≡ token.Name text ∷ b →
-      known ≡ known_with text names → id.0 ≡ number_of text names → ReadsPuts (between b (token.Ends ∷ rest) known all) done → ReadsSession (between tokens rest names all) id done
+      known ≡ with_text text names → id.0 ≡ name_number text names → ReadsPuts (between b (token.Ends ∷ rest) known all) done → ReadsSession (between tokens rest names all) id done
   reads-session {b} {rest} text names known {all} id {done} named known_is id_is commands = record {
     name = text;
     inner = between b (token.Ends ∷ rest) known all;
@@ -180,7 +180,7 @@ reads-empty {tokens} {a} {rest} {first} begins ends done names_are no_session no
   size = let h : nodes_in first.puts ≡ 0 = ap nodes_in no_commands in omega arith;
 }
 
-pub empty-behind : {tokens a rest : List Token} → tokens ≡ token.Rules ∷ a → a ≡ token.Ends ∷ rest → IsLeft rest → run tokens Starts ≡ None
+pub empty-behind : {tokens a rest : List Token} → tokens ≡ token.Rules ∷ a → a ≡ token.Ends ∷ rest → HasMore rest → run tokens Starts ≡ None
 unfolding run step
 empty-behind {rest = rest} begins ends left = ap (λ l. run l Starts) begins ∙ ap (λ l. run l Ruled) ends ∙ not-done rest left (record { session = None; puts = [] })
 
@@ -194,7 +194,7 @@ module _ {tokens a b rest : List Token} {names all : List (List ℕ)} {id : Name
   whole : tokens ≡ token.Rules ∷ token.Session ∷ token.Name read.name ∷ (read.commands.front ++ (token.Ends ∷ rest))
   whole = begins ∙ ap (λ l. token.Rules ∷ l) (sym same ∙ read.begins ∙ ap (λ l. token.Session ∷ token.Name read.name ∷ l) (read.commands.split ∙ ap (λ l. read.commands.front ++ l) read.ends))
 
-  pub session-behind : IsLeft rest → run tokens Starts ≡ None
+  pub session-behind : HasMore rest → run tokens Starts ≡ None
   unfolding run step
   session-behind left = ap (λ l. run l Starts) whole
       ∙ puts-run read.commands.are (token.Ends ∷ rest) read.name [] (omega (arith, read.commands.few))

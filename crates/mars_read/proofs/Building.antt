@@ -13,7 +13,7 @@ use Rattle.std.proofs.lemmas.List.{get_or-set_other}
 use Rattle.std.proofs.Math.ListN.{get_or-append}
 use Rattle.std.proofs.lemmas.List.Elements.{All-append, All-cons, All-nil, All-weaker, All-set}
 use Rattle.mars_tree.specs.Graph.{Node, free_leaf, labelled}
-use Rattle.mars_read.specs.Built.{Built, nothing, leaf_in, leaf_of, target_in, target_of, with_node, with_variable, with_target, with_kids, is_defined, IsBuilt}
+use Rattle.mars_read.specs.Built.{Built, empty_built, leaf_in, leaf_of, target_in, gives_way_to, built_with_node, with_variable, with_target, with_kids, is_defined, IsBuilt}
 
 -- the builder with a leaf for a new variable
 abbrev pub with_leaf : Built → List ℕ → Built
@@ -100,7 +100,7 @@ targets-in b node built =
 size-added : (b : Built) (node : Node) → IsBuilt b → length (b.targets ++ length b.nodes ∷ []) ≡ length (b.nodes ++ node ∷ [])
 size-added b node built = omega (arith, length-append b.nodes (node ∷ []), length-append b.targets (length b.nodes ∷ []), built.size)
 
-pub built-nothing : IsBuilt nothing
+pub built-nothing : IsBuilt empty_built
 built-nothing = record {
   size = refl;
   in_range = All-nil (λ target. target < 0);
@@ -109,7 +109,7 @@ built-nothing = record {
   apart = λ x y leaf e f. absurd (cc);
 }
 
-pub built-node : (b : Built) (node : Node) → IsBuilt b → IsBuilt (with_node b node)
+pub built-node : (b : Built) (node : Node) → IsBuilt b → IsBuilt (built_with_node b node)
 built-node b node built = record {
   size = size-added b node built;
   in_range = targets-in b node built;
@@ -203,9 +203,9 @@ with_kids-last g l ks kids n e = at g n e
 
 -- what the variable's leaf gives way to
 pub record Leaf (old new : Built) (x : List ℕ) (leaf : ℕ) : Type 0 where
-  pub defined : target_of new leaf ≢ leaf → is_defined old x ≡ true
-  pub undefined : target_of new leaf ≡ leaf → is_defined old x ≡ false
-  pub same : target_of new leaf ≢ leaf → new ≡ old
+  pub defined : gives_way_to new leaf ≢ leaf → is_defined old x ≡ true
+  pub undefined : gives_way_to new leaf ≡ leaf → is_defined old x ≡ false
+  pub same : gives_way_to new leaf ≢ leaf → new ≡ old
 
 pub leaf-of-variable : (old new : Built) (x : List ℕ) (leaf : ℕ) → IsBuilt old → new ≡ with_variable old x → leaf_of new x ≡ Some leaf → Leaf old new x leaf
 leaf-of-variable old new x leaf built is found = at (leaf_of old x) refl
@@ -214,11 +214,11 @@ leaf-of-variable old new x leaf built is found = at (leaf_of old x) refl
     known l e =
         let same : new ≡ old = is ∙ with_variable-known old x l e in
         let leaves : leaf ≡ l = let there : leaf_of old x ≡ Some leaf = subst (λ b. leaf_of b x ≡ Some leaf) same found in cc in
-        let test : is_defined old x ≡ not (target_of old l == l) = ap (λ o. option_map_or (λ l. not (target_of old l == l)) o false) e in
-        let target : target_of new leaf ≡ target_of old l = ap (λ b. target_of b leaf) same ∙ ap (target_of old) leaves in
+        let test : is_defined old x ≡ not (gives_way_to old l == l) = ap (λ o. option_map_or (λ l. not (gives_way_to old l == l)) o false) e in
+        let target : gives_way_to new leaf ≡ gives_way_to old l = ap (λ b. gives_way_to b leaf) same ∙ ap (gives_way_to old) leaves in
         record {
-          defined = λ n. test ∙ ap not (ne-test (target_of old l) l (λ q. n (target ∙ q ∙ sym leaves)));
-          undefined = λ q. test ∙ ap not (eq-test (target_of old l) l (sym target ∙ q ∙ leaves));
+          defined = λ n. test ∙ ap not (ne-test (gives_way_to old l) l (λ q. n (target ∙ q ∙ sym leaves)));
+          undefined = λ q. test ∙ ap not (eq-test (gives_way_to old l) l (sym target ∙ q ∙ leaves));
           same = λ n. same;
         }
 
@@ -227,8 +227,8 @@ leaf-of-variable old new x leaf built is found = at (leaf_of old x) refl
         let same : new ≡ with_leaf old x = is ∙ with_variable-new old x e in
         let there : leaf_of (with_leaf old x) x ≡ Some leaf = subst (λ b. leaf_of b x ≡ Some leaf) same found in
         let new_leaf : leaf ≡ length old.nodes = let put = leaf_in-new x old.leaves (length old.nodes) e in cc in
-        let itself : target_of new leaf ≡ leaf = ap (λ b. target_of b leaf) same ∙ subst (λ k. target_in (old.targets ++ k ∷ []) leaf ≡ leaf) new_leaf (target-new old.targets leaf (new_leaf ∙ sym built.size)) in
-        let test : is_defined old x ≡ false = ap (λ o. option_map_or (λ l. not (target_of old l == l)) o false) e in
+        let itself : gives_way_to new leaf ≡ leaf = ap (λ b. gives_way_to b leaf) same ∙ subst (λ k. target_in (old.targets ++ k ∷ []) leaf ≡ leaf) new_leaf (target-new old.targets leaf (new_leaf ∙ sym built.size)) in
+        let test : is_defined old x ≡ false = ap (λ o. option_map_or (λ l. not (gives_way_to old l == l)) o false) e in
         record { defined = λ n. absurd (n itself); undefined = λ q. test; same = λ n. absurd (n itself) }
 
     at : (o : Option ℕ) → leaf_of old x ≡ o → Leaf old new x leaf

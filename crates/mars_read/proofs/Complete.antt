@@ -4,9 +4,9 @@ use Rattle.std.specs.Prelude.{option_and_then, nat_lt, Bool, true, false, if◌t
 use Rattle.std.proofs.lemmas.Bool.Decides.{nat_tests}
 use Rattle.mars_read.specs.Token.{Token}
 use Rattle.mars_read.specs.Token as token
-use Rattle.mars_read.specs.Written.{Written, Applied, Writtens, none, more, count, Definition, Tree, Put, Script}
-use Rattle.mars_read.specs.Grammar.{IsTerm, variable, name, applied, AreTerms, one, others, definition, AreDefinitions, last, further, is_among, AreNew, IsTree, plain, defined, IsPut, put, ArePuts, no_puts, puts, IsScript, empty, session}
-use Rattle.mars_read.specs.Machine.{Head, Stack, InTree, InDefinition, InRow, State, Starts, Commands, Puts, Wants, Bare, Has, Defining, joined, ended, with_definition, may_define, is_applied, closes, step, run}
+use Rattle.mars_read.specs.Written.{Written, Applied, Writtens, none, more, argument_count, Definition, WrittenTree, WrittenPut, Script}
+use Rattle.mars_read.specs.Grammar.{IsTerm, variable, name, applied, AreTerms, one, others, definition, AreDefinitions, last, further, is_among, DefinesOnce, IsTreeForm, plain, defined, IsPut, put, ArePuts, no_puts, puts, IsScript, empty, session}
+use Rattle.mars_read.specs.Machine.{Head, Stack, InTree, InDefinition, InRow, ReaderState, Starts, Commands, Puts, Wants, Bare, Has, Defining, row_with, ended, with_definition, may_define, is_applied, closes, step, run}
 use Rattle.mars_read.specs.Reading.{IsNotNext}
 
 -- `ts ++ (sign ∷ [])` and what is behind it
@@ -14,7 +14,7 @@ apart : (ts : List Token) (sign : Token) (x : List Token) → (ts ++ (sign ∷ [
 apart ts sign x = append_assoc ts (sign ∷ []) x
 
 -- a test that passes
-when : (test : Bool) (next : State) (x : List Token) → test ≡ true →
+when : (test : Bool) (next : ReaderState) (x : List Token) → test ≡ true →
     option_and_then (λ y. run x y) (if test then Some next else None) ≡ run x next
 when test next x e = rw e refl
 
@@ -31,15 +31,15 @@ unfolding run step closes
 comma-runs t f front k x few = when (nat_lt (length front) 15) (Wants (InRow f (front ++ t ∷ []) k)) x (grind (arith, nat_tests))
 
 pub close-runs : (t : Written) (f : List ℕ) (front : List Written) (k : Stack) (x : List Token) →
-    run (token.Close ∷ x) (Has t (InRow f front k)) ≡ run x (Has (Applied f (joined front (more t none))) k)
+    run (token.Close ∷ x) (Has t (InRow f front k)) ≡ run x (Has (Applied f (row_with front (more t none))) k)
 unfolding run step closes
 close-runs t f front k x = refl
 
-pub joined-push : (front : List Written) (t : Written) (terms : Writtens) → joined (front ++ t ∷ []) terms ≡ joined front (more t terms)
+pub joined-push : (front : List Written) (t : Written) (terms : Writtens) → row_with (front ++ t ∷ []) terms ≡ row_with front (more t terms)
 joined-push [] t terms = refl
 joined-push (s ∷ front) t terms = ap (λ l. more s l) (joined-push front t terms)
 
-some-term : {ts : List Token} {terms : Writtens} → AreTerms ts terms → 1 ≤ count terms
+some-term : {ts : List Token} {terms : Writtens} → AreTerms ts terms → 1 ≤ argument_count terms
 some-term (one is) = omega arith
 some-term (others is are) = omega arith
 
@@ -52,8 +52,8 @@ mutual
   term-runs (applied {f} {ts} {terms} are few) x k alone =
       ap (λ l. run l (Wants (InRow f [] k))) (apart ts token.Close x) ∙ terms-run are f [] x k (omega arith)
 
-  pub terms-run : {ts : List Token} {terms : Writtens} → AreTerms ts terms → (f : List ℕ) (front : List Written) (x : List Token) (k : Stack) → length front + count terms ≤ 16 →
-      run (ts ++ (token.Close ∷ x)) (Wants (InRow f front k)) ≡ run x (Has (Applied f (joined front terms)) k)
+  pub terms-run : {ts : List Token} {terms : Writtens} → AreTerms ts terms → (f : List ℕ) (front : List Written) (x : List Token) (k : Stack) → length front + argument_count terms ≤ 16 →
+      run (ts ++ (token.Close ∷ x)) (Wants (InRow f front k)) ≡ run x (Has (Applied f (row_with front terms)) k)
   terms-run (one {ts} {t} is) f front x k few = term-runs is (token.Close ∷ x) (InRow f front k) (λ e. cc) ∙ close-runs t f front k x
   terms-run (others {ts} {us} {t} {terms} is are) f front x k few =
       ap (λ l. run l (Wants (InRow f front k))) (append_assoc ts (token.Comma ∷ us) (token.Close ∷ x))
@@ -75,7 +75,7 @@ pub last-runs : (h : Head) (whole : Written) (ds : List Definition) (x : List �
 unfolding run step closes
 last-runs h whole ds x t rest new applied_is = when (may_define ds x t) (ended h whole (with_definition ds x t)) rest (may ds x t new applied_is)
 
-pub definitions-run : {ts : List Token} {ds : List Definition} → AreDefinitions ts ds → (h : Head) (t : Written) (front : List Definition) (x : List Token) → AreNew front ds →
+pub definitions-run : {ts : List Token} {ds : List Definition} → AreDefinitions ts ds → (h : Head) (t : Written) (front : List Definition) (x : List Token) → DefinesOnce front ds →
     run (ts ++ (token.Semicolon ∷ x)) (Defining h t front) ≡ run x (ended h t (front ++ ds))
 unfolding run step
 definitions-run (last (definition {x = v} {f} {ts} {terms} is)) h t front x new =
@@ -95,7 +95,7 @@ pub plain-runs : (h : Head) (t : Written) (x : List Token) → run (token.Semico
 unfolding run step closes
 plain-runs h t x = refl
 
-pub tree-runs : {ts : List Token} {tree : Tree} → IsTree ts tree → (h : Head) (x : List Token) →
+pub tree-runs : {ts : List Token} {tree : WrittenTree} → IsTreeForm ts tree → (h : Head) (x : List Token) →
     run (ts ++ (token.Semicolon ∷ x)) (Wants (InTree h)) ≡ run x (ended h tree.term tree.definitions)
 tree-runs (plain {ts} {t} is) h x = term-runs is (token.Semicolon ∷ x) (InTree h) (λ e. cc) ∙ plain-runs h t x
 tree-runs (defined {ts} {us} {t} {ds} is are new) h x =
@@ -103,11 +103,11 @@ tree-runs (defined {ts} {us} {t} {ds} is are new) h x =
     ∙ term-runs is (token.Where ∷ (us ++ (token.Semicolon ∷ x))) (InTree h) (λ e. cc)
     ∙ where-runs h t (us ++ (token.Semicolon ∷ x)) ∙ definitions-run are h t [] x new
 
-pub word-runs : (x : List Token) (s : List ℕ) (ps : List Put) → length ps < 256 → run (token.Name (codes "put") ∷ x) (Commands s ps) ≡ run x (Puts s ps)
+pub word-runs : (x : List Token) (s : List ℕ) (ps : List WrittenPut) → length ps < 256 → run (token.Name (codes "put") ∷ x) (Commands s ps) ≡ run x (Puts s ps)
 unfolding run step
 word-runs x s ps few = when (nat_lt (length ps) 256) (Puts s ps) x (grind (arith, nat_tests))
 
-pub put-runs : {ts : List Token} {p : Put} → IsPut ts p → (x : List Token) (s : List ℕ) (ps : List Put) → length ps < 256 →
+pub put-runs : {ts : List Token} {p : WrittenPut} → IsPut ts p → (x : List Token) (s : List ℕ) (ps : List WrittenPut) → length ps < 256 →
     run (ts ++ x) (Commands s ps) ≡ run x (Commands s (ps ++ p ∷ []))
 unfolding run step
 put-runs (put {n} {ts} {tree} is) x s ps few =
@@ -115,7 +115,7 @@ put-runs (put {n} {ts} {tree} is) x s ps few =
     ∙ ap (λ l. run l (Wants (InTree (record { session = s; puts = ps; name = n })))) (apart ts token.Semicolon x)
     ∙ tree-runs is (record { session = s; puts = ps; name = n }) x
 
-pub puts-run : {ts : List Token} {qs : List Put} → ArePuts ts qs → (x : List Token) (s : List ℕ) (ps : List Put) → length ps + length qs ≤ 256 →
+pub puts-run : {ts : List Token} {qs : List WrittenPut} → ArePuts ts qs → (x : List Token) (s : List ℕ) (ps : List WrittenPut) → length ps + length qs ≤ 256 →
     run (ts ++ x) (Commands s ps) ≡ run x (Commands s (ps ++ qs))
 puts-run no_puts x s ps few = ap (λ l. run x (Commands s l)) (simp append-nil)
 puts-run (puts {ts} {us} {p} {ps = qs} is are) x s ps few =

@@ -6,7 +6,7 @@ use Rattle.std.proofs.lemmas.List.Elements.{All-head, All-tail}
 use Rattle.mars_read.specs.Token.{Token}
 use Rattle.mars_read.specs.Token as token
 use Rattle.mars_read.specs.Written.{Written, Variable, Applied, Definition, names_in, names_of_definitions}
-use Rattle.mars_read.specs.Grammar.{IsDefinition, definition, AreDefinitions, last, further, is_among, AreNew, IsTree, plain, defined}
+use Rattle.mars_read.specs.Grammar.{IsDefinition, definition, AreDefinitions, last, further, is_among, DefinesOnce, IsTreeForm, plain, defined}
 use Rattle.mars_read.specs.Machine.{Head, Stack, InTree, InDefinition, Wants, Bare, Has, Defining, Equating, may_define, is_applied, step, run}
 use Rattle.mars_read.specs.Meaning.{IsApplied}
 use Rattle.mars_read.specs.Meaning as meaning
@@ -102,7 +102,7 @@ pub record OpenDefinitions (old now : View) : Type 0 where
   pub taken : List Token
   pub split : old.tokens ≡ taken ++ now.tokens
   pub goes : (us : List Token) (ds : List Definition) → AreDefinitions us ds → AreDefinitions (taken ++ us) (written ++ ds)
-  pub apart : (ds : List Definition) → AreNew written ds → AreNew [] (written ++ ds)
+  pub apart : (ds : List Definition) → DefinesOnce written ds → DefinesOnce [] (written ++ ds)
   pub runs : (h : Head) (t : Written) → run old.tokens (Defining h t []) ≡ run now.tokens (Defining h t written)
   pub names_are : now.names ≡ known_all (names_of_definitions written) old.names
   pub stands : (n : ℕ) (t : Written) → Stands old.names old.built n t → Stands now.names now.built n t
@@ -145,8 +145,8 @@ module _ (old now next : View) (front : OpenDefinitions old now) (one : ReadsDef
   all-names = one.names_are ∙ ap (known_all (names_in one.written.term)) front.names_are ∙ sym (known-all-append (names_of_definitions front.written) (names_in one.written.term) old.names)
       ∙ ap (λ l. known_all l old.names) (sym (names-push front.written one.written))
 
-  apart-from : (ds : List Definition) → AreNew (front.written ++ one.written ∷ []) ds → AreNew [] ((front.written ++ one.written ∷ []) ++ ds)
-  apart-from ds new = subst (λ (l : List Definition). AreNew [] l) (sym (append_assoc front.written (one.written ∷ []) ds)) (front.apart (one.written ∷ ds) (new-here, new))
+  apart-from : (ds : List Definition) → DefinesOnce (front.written ++ one.written ∷ []) ds → DefinesOnce [] ((front.written ++ one.written ∷ []) ++ ds)
+  apart-from ds new = subst (λ (l : List Definition). DefinesOnce [] l) (sym (append_assoc front.written (one.written ∷ []) ds)) (front.apart (one.written ∷ ds) (new-here, new))
 
   pub definitions-more : (rest : List Token) → next.tokens ≡ token.Comma ∷ rest → OpenDefinitions old (view rest next.names next.built)
   definitions-more rest comma = record {
@@ -180,7 +180,7 @@ module _ (old now next : View) (front : OpenDefinitions old now) (one : ReadsDef
         front = front.taken ++ one.front;
         split = front.split ∙ ap (λ l. front.taken ++ l) (one.split ∙ ap (λ l. one.front ++ l) behind) ∙ sym (append_assoc front.taken one.front (token.Semicolon ∷ rest));
         are = front.goes one.front (one.written ∷ []) (last one.is);
-        apart = subst (λ (l : List Definition). AreNew [] l) (append-nil (front.written ++ one.written ∷ [])) (apart-from [] tt);
+        apart = subst (λ (l : List Definition). DefinesOnce [] l) (append-nil (front.written ++ one.written ∷ [])) (apart-from [] tt);
         names_are = all-names;
         stands = λ n t s. one.stands n t (front.stands n t s);
         defines = (one.defines front.written front.defines).1;
@@ -208,7 +208,7 @@ rest-plain tokens now rest names b same e d =
       written = [];
       front = [];
       split = behind;
-      is = λ ts t is. subst (λ (l : List Token). IsTree l (record { term = t; definitions = [] })) (sym (append-nil ts)) (plain is);
+      is = λ ts t is. subst (λ (l : List Token). IsTreeForm l (record { term = t; definitions = [] })) (sym (append-nil ts)) (plain is);
       names_are = refl;
       stands = λ n t s. s;
       defines = d;

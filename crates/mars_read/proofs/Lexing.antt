@@ -7,7 +7,7 @@ use Rattle.std.proofs.Math.Seq.{drop-append_seam, take-append_seam}
 use Rattle.std.proofs.lemmas.Bool.Decides.{nat_tests}
 use Rattle.std.proofs.lemmas.Slice.Eq.{bytes_eq-Decides}
 use Rattle.mars_read.specs.Bytes.{is_letter, is_blank, is_sign}
-use Rattle.mars_read.specs.Token.{Token, Rules, Session, Ends, Where, Name, Variable, Odd, Open, Close, Comma, Semicolon, Equals, token_of, word_of, sign_of, spelled}
+use Rattle.mars_read.specs.Token.{Token, Rules, Session, Ends, Where, Name, Variable, Odd, Open, Close, Comma, Semicolon, Equals, token_of, word_token, sign_of, spelled}
 use Rattle.mars_read.specs.Lexed.{is_token, IsLongest, Begins, IsShort}
 use Rattle.mars_read.proofs.FirstToken.{other-token, one-sign-length, prefix-all}
 
@@ -114,7 +114,7 @@ pub token-short : (text : List ℕ) → length text ≤ 64 → IsShort (token_of
 token-short [] le = le
 token-short (b ∷ u) le = at (is_letter b)
   where
-    at : (v : Bool) → IsShort (if v then word_of (b ∷ u) else sign_of (b ∷ u))
+    at : (v : Bool) → IsShort (if v then word_token (b ∷ u) else sign_of (b ∷ u))
     at true = word-short _ _ _ _ (spelled (b ∷ u)) (spelled-short _ _ (b ∷ u) le)
     at false = sign-short _ _ _ _ _ (b ∷ u) le
 
@@ -123,7 +123,7 @@ pub short-token : (text : List ℕ) → is_token text ≡ true → IsShort (toke
 short-token [] t s = s
 short-token (b ∷ u) t s = at (is_letter b) refl s
   where
-    at : (v : Bool) → is_letter b ≡ v → IsShort (if v then word_of (b ∷ u) else sign_of (b ∷ u)) → length (b ∷ u) ≤ 64
+    at : (v : Bool) → is_letter b ≡ v → IsShort (if v then word_token (b ∷ u) else sign_of (b ∷ u)) → length (b ∷ u) ≤ 64
     at true e s = word-length _ _ _ _ (spelled (b ∷ u)) (b ∷ u) (reserved-length (b ∷ u) (codes "rules") (omega arith)) (reserved-length (b ∷ u) (codes "session") (omega arith))
         (reserved-length (b ∷ u) (codes "end") (omega arith)) (reserved-length (b ∷ u) (codes "where") (omega arith)) (spelled-length _ _ (b ∷ u)) s
     at false e s = let one = one-sign-length b u e t in omega arith

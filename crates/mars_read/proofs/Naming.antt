@@ -6,13 +6,13 @@ use Rattle.std.proofs.lemmas.Option.{slice_get-get_or}
 use Rattle.std.proofs.lemmas.List.Quantifiers.{position-Some}
 use Rattle.std.proofs.lemmas.Bool.Decides.{Decides-eqb}
 use Rattle.std.proofs.lemmas.Slice.Eq.{slice_eq-Decides}
-use Rattle.mars_tree.specs.Names.{place_of, number_of, known_with}
+use Rattle.mars_tree.specs.Names.{place_of, name_number, with_text}
 use Rattle.mars_tree.specs.Graph.{Node, Shown}
 use Rattle.mars_tree.specs.Graph as graph
 use Rattle.mars_tree.specs.declared.label.Label.TheVariants as label
 use Rattle.mars_tree.specs.declared.label.NameId.{NameId}
-use Rattle.mars_read.specs.Written.{Tree, Put}
-use Rattle.mars_read.specs.Meaning.{Said, name, free, says, Agree, IsTreeOf}
+use Rattle.mars_read.specs.Written.{WrittenTree, WrittenPut}
+use Rattle.mars_read.specs.Meaning.{Said, name, free, says, ShowsSaid, IsTreeOf}
 use Rattle.mars_read.specs.declared.first.FirstPut.{FirstPut}
 use Rattle.mars_read.specs.First.{known_all, IsNameOf, IsPutOf}
 
@@ -30,7 +30,7 @@ grows-on {a} {b} {c} first second = record {
   whole = second.whole ∙ ap (λ l. l ++ second.added) first.whole ∙ append_assoc a first.added second.added;
 }
 
-pub grows-with : (text : List ℕ) (names : List (List ℕ)) → Grows names (known_with text names)
+pub grows-with : (text : List ℕ) (names : List (List ℕ)) → Grows names (with_text text names)
 grows-with text names = by (is_some (place_of text names))
   where
     by : (b : Bool) → Grows names (if b then names else names ++ text ∷ [])
@@ -39,18 +39,18 @@ grows-with text names = by (is_some (place_of text names))
 
 pub grows-all : (texts names : List (List ℕ)) → Grows names (known_all texts names)
 grows-all [] names = grows-none names
-grows-all (text ∷ texts) names = grows-on (grows-with text names) (grows-all texts (known_with text names))
+grows-all (text ∷ texts) names = grows-on (grows-with text names) (grows-all texts (with_text text names))
 
 -- one name, and then others
 pub known-all-append : (a b names : List (List ℕ)) → known_all (a ++ b) names ≡ known_all b (known_all a names)
 known-all-append [] b names = refl
-known-all-append (text ∷ a) b names = known-all-append a b (known_with text names)
+known-all-append (text ∷ a) b names = known-all-append a b (with_text text names)
 
 length-with : (text : List ℕ) (names : List (List ℕ)) (b : Bool) → length (if b then names else names ++ text ∷ []) ≤ length names + 1
 length-with text names true = omega arith
 length-with text names false = omega (arith, length-append names (text ∷ []))
 
-pub known-length : (text : List ℕ) (names : List (List ℕ)) → length (known_with text names) ≤ length names + 1
+pub known-length : (text : List ℕ) (names : List (List ℕ)) → length (with_text text names) ≤ length names + 1
 known-length text names = length-with text names (is_some (place_of text names))
 
 -- what stands at a place stays there
@@ -67,8 +67,8 @@ last-at [] x = refl
 last-at (y ∷ xs) x = last-at xs x
 
 -- a name that was just read is listed
-pub name-listed : (text : List ℕ) (names : List (List ℕ)) (n : ℕ) → n ≡ number_of text names → slice_get (known_with text names) n ≡ Some text
-name-listed text names n is = ap (λ k. slice_get (known_with text names) k) is ∙ by (place_of text names) refl
+pub name-listed : (text : List ℕ) (names : List (List ℕ)) (n : ℕ) → n ≡ name_number text names → slice_get (with_text text names) n ≡ Some text
+name-listed text names n is = ap (λ k. slice_get (with_text text names) k) is ∙ by (place_of text names) refl
   where
     by : (o : Option ℕ) → place_of text names ≡ o → slice_get (if is_some o then names else names ++ text ∷ []) (unwrap_or o (length names)) ≡ Some text
     by None missing = last-at names text
@@ -78,7 +78,7 @@ name-listed text names n is = ap (λ k. slice_get (known_with text names) k) is 
         slice_get-get_or names i [] at.0 ∙ ap Some (sym same)
 
 -- trees and commands stay what they were
-agree-stays : {old new : List (List ℕ)} → Grows old new → (said : Option Said) (shown : Option Shown) → Agree old said shown → Agree new said shown
+agree-stays : {old new : List (List ℕ)} → Grows old new → (said : Option Said) (shown : Option Shown) → ShowsSaid old said shown → ShowsSaid new said shown
 agree-stays grows None None is = is
 agree-stays grows None (Some shown) is = is
 agree-stays grows (Some (name f count)) None is = is
@@ -91,20 +91,20 @@ agree-stays grows (Some (name f count)) (Some (graph.free n)) is = is
 agree-stays grows (Some (free x)) (Some (graph.label l)) is = is
 agree-stays grows (Some (free x)) (Some (graph.free n)) is = is
 
-pub tree-stays : {old new : List (List ℕ)} → Grows old new → (tree : Tree) (g : List Node) (root : ℕ) → IsTreeOf old tree g root → IsTreeOf new tree g root
+pub tree-stays : {old new : List (List ℕ)} → Grows old new → (tree : WrittenTree) (g : List Node) (root : ℕ) → IsTreeOf old tree g root → IsTreeOf new tree g root
 tree-stays grows tree g root is = record {
   shown = λ path. agree-stays grows (says tree path) (graph.at g root path) (is.shown path);
   leaves = is.leaves;
 }
 
-pub put-stays : {old new : List (List ℕ)} → Grows old new → (written : Put) (put : FirstPut) → IsPutOf old written put → IsPutOf new written put
+pub put-stays : {old new : List (List ℕ)} → Grows old new → (written : WrittenPut) (put : FirstPut) → IsPutOf old written put → IsPutOf new written put
 put-stays grows written put is = record {
   name = name-stays grows written.name put.name is.name;
   tree = tree-stays grows written.tree put.graph put.root is.tree;
   root_in = is.root_in;
 }
 
-pub puts-stay : {old new : List (List ℕ)} → Grows old new → (written : List Put) (puts : List FirstPut) → AllZip (IsPutOf old) written puts → AllZip (IsPutOf new) written puts
+pub puts-stay : {old new : List (List ℕ)} → Grows old new → (written : List WrittenPut) (puts : List FirstPut) → AllZip (IsPutOf old) written puts → AllZip (IsPutOf new) written puts
 puts-stay grows [] [] are = tt
 puts-stay grows [] (p ∷ ps) are = are
 puts-stay grows (w ∷ ws) [] are = are

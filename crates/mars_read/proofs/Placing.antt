@@ -7,22 +7,22 @@ use Rattle.std.proofs.lemmas.List.Elements.{All-append, All-cons, All-nil}
 use Rattle.mars_read.specs.Bytes.{is_blank}
 use Rattle.mars_read.specs.declared.token.Token.{Token as Placed}
 use Rattle.mars_read.specs.Token.{token_of}
-use Rattle.mars_read.specs.Seen.{text_at, seen, all_seen, IsWithin}
-use Rattle.mars_read.specs.Lexed.{IsLongest, Begins, IsShort, opened, IsLexed, IsNotLexed, HasNoToken}
+use Rattle.mars_read.specs.Seen.{text_at, seen, all_seen, LiesWithin}
+use Rattle.mars_read.specs.Lexed.{IsLongest, Begins, IsShort, open_after, IsLexed, IsNotLexed, HasNoToken}
 use Rattle.mars_read.proofs.FirstToken.{prefix-all}
 use Rattle.mars_read.proofs.Steps.{LexedTo, lexed-more, lexed-end, lexed-bad, lexed-deep, all-blank, not-all-blank}
 
 -- the tokens in front of a place
 pub record PlacedTo (bytes : List ℕ) (tokens : List Placed) (at depth : ℕ) : Type 0 where
   pub at_in : at ≤ length bytes
-  pub within : All (IsWithin bytes) tokens
+  pub within : All (LiesWithin bytes) tokens
   pub lexed : LexedTo bytes (all_seen bytes tokens) (drop at bytes) depth
 
 -- the next token behind blanks
 pub record IsNext (bytes : List ℕ) (at : ℕ) (t : Placed) : Type 0 where
   pub start : t.start ≡ at + prefix_len is_blank (drop at bytes)
   pub some : t.start < t.end
-  pub within : IsWithin bytes t
+  pub within : LiesWithin bytes t
   pub token : seen bytes t ≡ token_of (text_at bytes t)
   pub longest : IsLongest (text_at bytes t) (drop t.end bytes)
   pub short : IsShort (seen bytes t)
@@ -45,16 +45,16 @@ begins-at bytes at t next = record {
   named = next.token;
 }
 
-pub placed-more : (bytes : List ℕ) (tokens : List Placed) (at depth deeper : ℕ) (t : Placed) → PlacedTo bytes tokens at depth → IsNext bytes at t → deeper ≡ opened depth (seen bytes t) → deeper ≤ 200 → PlacedTo bytes (tokens ++ t ∷ []) t.end deeper
+pub placed-more : (bytes : List ℕ) (tokens : List Placed) (at depth deeper : ℕ) (t : Placed) → PlacedTo bytes tokens at depth → IsNext bytes at t → deeper ≡ open_after depth (seen bytes t) → deeper ≤ 200 → PlacedTo bytes (tokens ++ t ∷ []) t.end deeper
 placed-more bytes tokens at depth deeper t so_far next is fits = record {
   at_in = next.within.inside;
-  within = All-append (IsWithin bytes) tokens (t ∷ []) so_far.within (All-cons (IsWithin bytes) t [] next.within (All-nil (IsWithin bytes)));
+  within = All-append (LiesWithin bytes) tokens (t ∷ []) so_far.within (All-cons (LiesWithin bytes) t [] next.within (All-nil (LiesWithin bytes)));
   lexed = subst (λ ts. LexedTo bytes ts (drop t.end bytes) deeper) (sym (map-append (seen bytes) tokens (t ∷ [])))
       (subst (λ d. LexedTo bytes (all_seen bytes tokens ++ seen bytes t ∷ []) (drop t.end bytes) d) (sym is)
       (lexed-more bytes (drop at bytes) (drop t.end bytes) (all_seen bytes tokens) depth (seen bytes t) so_far.lexed (begins-at bytes at t next) next.short (subst (λ d. d ≤ 200) is fits)));
 }
 
-pub placed-deep : (bytes : List ℕ) (tokens : List Placed) (at depth : ℕ) (t : Placed) → PlacedTo bytes tokens at depth → IsNext bytes at t → 200 < opened depth (seen bytes t) → IsNotLexed bytes
+pub placed-deep : (bytes : List ℕ) (tokens : List Placed) (at depth : ℕ) (t : Placed) → PlacedTo bytes tokens at depth → IsNext bytes at t → 200 < open_after depth (seen bytes t) → IsNotLexed bytes
 placed-deep bytes tokens at depth t so_far next over = lexed-deep bytes (drop at bytes) (drop t.end bytes) (all_seen bytes tokens) depth (seen bytes t) so_far.lexed (begins-at bytes at t next) over
 
 pub placed-end : (bytes : List ℕ) (tokens : List Placed) (at depth n : ℕ) (rest : List ℕ) → PlacedTo bytes tokens at depth → rest ≡ drop at bytes → n ≡ prefix_len is_blank rest → at + n ≡ length bytes → IsLexed bytes (all_seen bytes tokens)
@@ -71,6 +71,6 @@ placed-bad bytes tokens at depth n rest so_far e is less bad =
     (not-all-blank (drop at bytes) (λ same. less (omega arith)))
     (subst (λ l. HasNoToken l) (sym (drop-drop n at bytes) ∙ ap (λ k. drop k (drop at bytes)) count) bad)
 
-pub next-at : (bytes : List ℕ) (at n : ℕ) (rest : List ℕ) (t : Placed) → rest ≡ drop at bytes → n ≡ prefix_len is_blank rest → t.start ≡ at + n → t.start < t.end → IsWithin bytes t → seen bytes t ≡ token_of (text_at bytes t) → IsLongest (text_at bytes t) (drop t.end bytes) → IsShort (seen bytes t) → IsNext bytes at t
+pub next-at : (bytes : List ℕ) (at n : ℕ) (rest : List ℕ) (t : Placed) → rest ≡ drop at bytes → n ≡ prefix_len is_blank rest → t.start ≡ at + n → t.start < t.end → LiesWithin bytes t → seen bytes t ≡ token_of (text_at bytes t) → IsLongest (text_at bytes t) (drop t.end bytes) → IsShort (seen bytes t) → IsNext bytes at t
 next-at bytes at n rest t e is start some within token longest short =
     record { start = start ∙ ap (λ k. at + k) (is ∙ ap (λ l. prefix_len is_blank l) e); some = some; within = within; token = token; longest = longest; short = short }

@@ -7,13 +7,13 @@ use Rattle.mars_read.specs.declared.refusal.Refusal.{Refusal}
 use Rattle.mars_read.specs.declared.refusal.Refusal.TheVariants as refusal
 use Rattle.mars_read.specs.declared.token.Kind.{Kind}
 use Rattle.mars_read.specs.declared.token.Kind.TheVariants as kind
-use Rattle.mars_read.specs.Seen.{named}
+use Rattle.mars_read.specs.Seen.{token_named}
 use Rattle.mars_read.specs.Token.{Token}
 use Rattle.mars_read.specs.Token as token
-use Rattle.mars_read.specs.Written.{Written, Variable, Definition, Put, Script}
+use Rattle.mars_read.specs.Written.{Written, Variable, Definition, WrittenPut, Script}
 use Rattle.mars_read.specs.Grammar.{is_among}
-use Rattle.mars_read.specs.Machine.{Head, Stack, InTree, InDefinition, InRow, State, Starts, Ruled, Named, Commands, Puts, Wants, Has, Defining, Equating, Whole, ended, with_definition, may_define, is_put, closes, step, run}
-use Rattle.mars_read.specs.Reading.{OnForm, IsNotNext, IsNoName, IsNoVariable, IsLeft}
+use Rattle.mars_read.specs.Machine.{Head, Stack, InTree, InDefinition, InRow, ReaderState, Starts, Ruled, Named, Commands, Puts, Wants, Has, Defining, Equating, Whole, ended, with_definition, may_define, is_put, closes, step, run}
+use Rattle.mars_read.specs.Reading.{OnForm, IsNotNext, IsNoName, IsNoVariable, HasMore}
 
 -- one refusal from another
 pub on-form : {P Q : Type 0} (e : Refusal) → (P → Q) → OnForm e P → OnForm e Q
@@ -39,13 +39,13 @@ no-session-name [] apart = refl
 no-session-name ((token.Name x) ∷ rest) apart = absurd (apart x rest refl)
 no-session-name (_ ∷ rest) apart = refl
 
-pub no-put-name : (tokens : List Token) → IsNoName tokens → (s : List ℕ) (ps : List Put) → run tokens (Puts s ps) ≡ None
+pub no-put-name : (tokens : List Token) → IsNoName tokens → (s : List ℕ) (ps : List WrittenPut) → run tokens (Puts s ps) ≡ None
 unfolding run step
 no-put-name [] apart s ps = refl
 no-put-name ((token.Name x) ∷ rest) apart s ps = absurd (apart x rest refl)
 no-put-name (_ ∷ rest) apart s ps = refl
 
-by-test : (test : Bool) (next : State) (rest : List Token) → test ≡ false →
+by-test : (test : Bool) (next : ReaderState) (rest : List Token) → test ≡ false →
     option_and_then (λ y. run rest y) (if test then Some next else None) ≡ None
 by-test test next rest e = rw e refl
 
@@ -58,7 +58,7 @@ unfolding run
 term-ended tokens e k = ap (λ l. run l (Wants k)) e
 
 -- a TERM begins with a variable or a name
-pub no-term : (next : Kind) (text : List ℕ) (tokens rest : List Token) → tokens ≡ named next text ∷ rest → (next ≡ kind.Variable → ⊥) → (next ≡ kind.Name → ⊥) → (k : Stack) → run tokens (Wants k) ≡ None
+pub no-term : (next : Kind) (text : List ℕ) (tokens rest : List Token) → tokens ≡ token_named next text ∷ rest → (next ≡ kind.Variable → ⊥) → (next ≡ kind.Name → ⊥) → (k : Stack) → run tokens (Wants k) ≡ None
 unfolding run step
 no-term kind.Variable text tokens rest e variable_not name_not k = absurd (variable_not refl)
 no-term kind.Name text tokens rest e variable_not name_not k = absurd (name_not refl)
@@ -125,13 +125,13 @@ no-defined-name ((token.Name x) ∷ rest) apart h whole ds v = absurd (apart x r
 no-defined-name ((token.Variable x) ∷ rest) apart h whole ds v = defined-variable x rest h whole ds v
 no-defined-name (_ ∷ rest) apart h whole ds v = refl
 
-pub not-done : (tokens : List Token) → IsLeft tokens → (script : Script) → run tokens (Whole script) ≡ None
+pub not-done : (tokens : List Token) → HasMore tokens → (script : Script) → run tokens (Whole script) ≡ None
 unfolding run step
 not-done [] left script = absurd (left refl)
 not-done (token.Rules ∷ rest) left script = refl
 not-done (_ ∷ rest) left script = refl
 
-pub no-command-more : (tokens : List Token) → IsNotNext token.Ends tokens → (s : List ℕ) (ps : List Put) → 256 ≤ length ps → run tokens (Commands s ps) ≡ None
+pub no-command-more : (tokens : List Token) → IsNotNext token.Ends tokens → (s : List ℕ) (ps : List WrittenPut) → 256 ≤ length ps → run tokens (Commands s ps) ≡ None
 unfolding run step
 no-command-more [] open_ s ps many = refl
 no-command-more (token.Ends ∷ rest) open_ s ps many = absurd (open_ refl)
@@ -149,7 +149,7 @@ other-word x apart = by (is_put x) refl
     by false e = e
     by true e = absurd (apart (ap token.Name ((slice_eq-Decides Decides-eqb x (codes "put") (is_put x) refl).0 e)))
 
-pub no-word : (tokens : List Token) → IsNotNext token.Ends tokens → IsNotNext (token.Name (codes "put")) tokens → (s : List ℕ) (ps : List Put) → run tokens (Commands s ps) ≡ None
+pub no-word : (tokens : List Token) → IsNotNext token.Ends tokens → IsNotNext (token.Name (codes "put")) tokens → (s : List ℕ) (ps : List WrittenPut) → run tokens (Commands s ps) ≡ None
 unfolding run step
 no-word [] open_ apart s ps = refl
 no-word (token.Ends ∷ rest) open_ apart s ps = absurd (open_ refl)

@@ -2,16 +2,16 @@
 use Rattle.std.proofs.Common.{◌≡◌, ℕ, ◌<◌, ◌≤◌, ◌+◌, List, [], ◌∷◌, ◌++◌, length, refl, ap, sym, ◌∙◌, subst, Some, None, All, append_assoc, append-nil, arith, length-append}
 use Rattle.std.specs.List.{AllZip}
 use Rattle.std.proofs.lemmas.List.Elements.{All-push, All-weaker}
-use Rattle.mars_tree.specs.Names.{number_of, known_with}
+use Rattle.mars_tree.specs.Names.{name_number, with_text}
 use Rattle.mars_tree.specs.declared.label.NameId.{NameId}
 use Rattle.mars_tree.specs.declared.label.Label.TheVariants as label
 use Rattle.mars_tree.specs.Graph.{labelled}
 use Rattle.mars_read.specs.Token.{Token}
 use Rattle.mars_read.specs.Token as token
-use Rattle.mars_read.specs.Written.{Written, Variable, Applied, Writtens, none, more, count, names_in, names_in_all}
+use Rattle.mars_read.specs.Written.{Written, Variable, Applied, Writtens, none, more, argument_count, names_in, names_in_all}
 use Rattle.mars_read.specs.Grammar.{IsTerm, variable, name, applied, AreTerms, one, others}
-use Rattle.mars_read.specs.Machine.{Stack, InRow, Wants, Bare, Has, joined, closes, step, run}
-use Rattle.mars_read.specs.Built.{Built, leaf_of, with_node, with_variable, Stands, IsBuilt}
+use Rattle.mars_read.specs.Machine.{Stack, InRow, Wants, Bare, Has, row_with, closes, step, run}
+use Rattle.mars_read.specs.Built.{Built, leaf_of, built_with_node, with_variable, Stands, IsBuilt}
 use Rattle.mars_read.specs.First.{known_all, IsNameOf}
 use Rattle.mars_read.specs.Reading.{View, view, Keeps, Fits, IsNotNext, ReadsTerm, ReadsNamed, ReadsRow, ClosesRow}
 use Rattle.mars_read.proofs.Naming.{Grows, grows-with, grows-all, known-all-append, known-length, name-stays, name-listed, zip-push, zip-length}
@@ -25,9 +25,9 @@ pub record OpenRow (old now : View) (kids : List ℕ) : Type 0 where
   pub written : List Written
   pub taken : List Token
   pub split : old.tokens ≡ taken ++ now.tokens
-  pub goes : (us : List Token) (terms : Writtens) → AreTerms us terms → AreTerms (taken ++ us) (joined written terms)
+  pub goes : (us : List Token) (terms : Writtens) → AreTerms us terms → AreTerms (taken ++ us) (row_with written terms)
   pub runs : (f : List ℕ) (k : Stack) → run old.tokens (Wants (InRow f [] k)) ≡ run now.tokens (Wants (InRow f written k))
-  pub names_are : now.names ≡ known_all (names_in_all (joined written none)) old.names
+  pub names_are : now.names ≡ known_all (names_in_all (row_with written none)) old.names
   pub stand : AllZip (λ n t. Stands now.names now.built n t) kids written
   pub kids_in : All (λ kid. kid < length now.built.nodes) kids
   pub few : length kids < 16
@@ -52,13 +52,13 @@ row-begins tokens names b = record {
   fits = fits-same (view tokens names b);
 }
 
-names-push : (front : List Written) (t : Written) → names_in_all (joined (front ++ t ∷ []) none) ≡ names_in_all (joined front none) ++ names_in t
+names-push : (front : List Written) (t : Written) → names_in_all (row_with (front ++ t ∷ []) none) ≡ names_in_all (row_with front none) ++ names_in t
 names-push [] t = append-nil (names_in t)
-names-push (s ∷ front) t = ap (λ l. names_in s ++ l) (names-push front t) ∙ sym (append_assoc (names_in s) (names_in_all (joined front none)) (names_in t))
+names-push (s ∷ front) t = ap (λ l. names_in s ++ l) (names-push front t) ∙ sym (append_assoc (names_in s) (names_in_all (row_with front none)) (names_in t))
 
-count-joined : (front : List Written) (terms : Writtens) → count (joined front terms) ≡ length front + count terms
+count-joined : (front : List Written) (terms : Writtens) → argument_count (row_with front terms) ≡ length front + argument_count terms
 count-joined [] terms = omega arith
-count-joined (t ∷ front) terms = let h : count (joined front terms) ≡ length front + count terms = count-joined front terms in omega arith
+count-joined (t ∷ front) terms = let h : argument_count (row_with front terms) ≡ length front + argument_count terms = count-joined front terms in omega arith
 
 stay-all : (old new : View) (kids : List ℕ) (ts : List Written) → Keeps old new → AllZip (λ n t. Stands old.names old.built n t) kids ts → AllZip (λ n t. Stands new.names new.built n t) kids ts
 stay-all old new [] [] keeps are = tt
@@ -84,8 +84,8 @@ module _ (old now next : View) (kids : List ℕ) (kid : ℕ) (row : OpenRow old 
   all-in = All-push (λ n. n < length next.built.nodes) kids kid
       (All-weaker (λ n. n < length now.built.nodes) (λ n. n < length next.built.nodes) (λ n h. omega (arith, h, term.fits.longer)) kids row.kids_in) term.node_in
 
-  all-names : next.names ≡ known_all (names_in_all (joined (row.written ++ term.written ∷ []) none)) old.names
-  all-names = term.names_are ∙ ap (known_all (names_in term.written)) row.names_are ∙ sym (known-all-append (names_in_all (joined row.written none)) (names_in term.written) old.names)
+  all-names : next.names ≡ known_all (names_in_all (row_with (row.written ++ term.written ∷ []) none)) old.names
+  all-names = term.names_are ∙ ap (known_all (names_in term.written)) row.names_are ∙ sym (known-all-append (names_in_all (row_with row.written none)) (names_in term.written) old.names)
       ∙ ap (λ l. known_all l old.names) (sym (names-push row.written term.written))
 
   pub row-more : (rest : List Token) → next.tokens ≡ token.Comma ∷ rest → length (kids ++ kid ∷ []) < 16 → OpenRow old (view rest next.names next.built) (kids ++ kid ∷ [])
@@ -94,7 +94,7 @@ module _ (old now next : View) (kids : List ℕ) (kid : ℕ) (row : OpenRow old 
     taken = row.taken ++ (term.front ++ (token.Comma ∷ []));
     split = row.split ∙ ap (λ l. row.taken ++ l) (term.split ∙ ap (λ l. term.front ++ l) comma ∙ sym (append_assoc term.front (token.Comma ∷ []) rest))
         ∙ sym (append_assoc row.taken (term.front ++ (token.Comma ∷ [])) rest);
-    goes = λ us terms are. subst (λ (l : List Token). AreTerms l (joined (row.written ++ term.written ∷ []) terms))
+    goes = λ us terms are. subst (λ (l : List Token). AreTerms l (row_with (row.written ++ term.written ∷ []) terms))
         (ap (λ l. row.taken ++ l) (sym (append_assoc term.front (token.Comma ∷ []) us)) ∙ sym (append_assoc row.taken (term.front ++ (token.Comma ∷ [])) us))
         (subst (λ (w : Writtens). AreTerms (row.taken ++ (term.front ++ (token.Comma ∷ us))) w) (sym (joined-push row.written term.written terms))
         (row.goes (term.front ++ (token.Comma ∷ us)) (more term.written terms) (others term.is are)));
@@ -123,22 +123,22 @@ module _ (old now next : View) (kids : List ℕ) (kid : ℕ) (row : OpenRow old 
       ClosesRow id (kids ++ kid ∷ []) tokens rest next.built built node → ReadsRow f old (view rest next.names built) node
   row-closed f id tokens rest built node same named closes =
       let behind : next.tokens ≡ token.Close ∷ rest = sym same ∙ closes.closed in
-      let above : Built = with_node next.built (labelled (label.Name id (length (kids ++ kid ∷ []))) (kids ++ kid ∷ [])) in
+      let above : Built = built_with_node next.built (labelled (label.Name id (length (kids ++ kid ∷ []))) (kids ++ kid ∷ [])) in
       let longer : length built.nodes ≡ length next.built.nodes + 1 = ap (λ (b : Built). length b.nodes) closes.more_is ∙ length-append next.built.nodes (labelled (label.Name id (length (kids ++ kid ∷ []))) (kids ++ kid ∷ []) ∷ []) in
       record {
-        terms = joined row.written (more term.written none);
+        terms = row_with row.written (more term.written none);
         front = row.taken ++ (term.front ++ (token.Close ∷ []));
         split = row.split ∙ ap (λ l. row.taken ++ l) (term.split ∙ ap (λ l. term.front ++ l) behind ∙ sym (append_assoc term.front (token.Close ∷ []) rest))
             ∙ sym (append_assoc row.taken (term.front ++ (token.Close ∷ [])) rest);
-        is = subst (λ (l : List Token). IsTerm (token.Name f ∷ token.Open ∷ l) (Applied f (joined row.written (more term.written none)))) (append_assoc row.taken term.front (token.Close ∷ []))
+        is = subst (λ (l : List Token). IsTerm (token.Name f ∷ token.Open ∷ l) (Applied f (row_with row.written (more term.written none)))) (append_assoc row.taken term.front (token.Close ∷ []))
             (applied (row.goes term.front (more term.written none) (one term.is)) (omega (arith, count-joined row.written (more term.written none), as-long, row.few)));
         runs = λ k. runs-to f k ∙ ap (λ l. run l (Has term.written (InRow f row.written k))) behind ∙ close-runs term.written f row.written k rest;
         names_are = all-names ∙ ap (λ l. known_all (names_in_all l) old.names) (joined-push row.written term.written none);
-        stands = subst (λ (b : Built). Stands next.names b node (Applied f (joined row.written (more term.written none)))) (sym closes.more_is)
-            (subst (λ (n : ℕ). Stands next.names above n (Applied f (joined row.written (more term.written none)))) (sym closes.node_is)
+        stands = subst (λ (b : Built). Stands next.names b node (Applied f (row_with row.written (more term.written none)))) (sym closes.more_is)
+            (subst (λ (n : ℕ). Stands next.names above n (Applied f (row_with row.written (more term.written none)))) (sym closes.node_is)
             (subst (λ (w : Writtens). Stands next.names above (length next.built.nodes) (Applied f w)) (joined-push row.written term.written none)
-            (stands-applied next.names next.built id f (kids ++ kid ∷ []) (joined (row.written ++ term.written ∷ []) none)
-            (name-stays (subst (λ (l : List (List ℕ)). Grows old.names l) (sym all-names) (grows-all (names_in_all (joined (row.written ++ term.written ∷ []) none)) old.names)) f id named) (stand-in-row next.names next.built (kids ++ kid ∷ []) (row.written ++ term.written ∷ []) all-stand))));
+            (stands-applied next.names next.built id f (kids ++ kid ∷ []) (row_with (row.written ++ term.written ∷ []) none)
+            (name-stays (subst (λ (l : List (List ℕ)). Grows old.names l) (sym all-names) (grows-all (names_in_all (row_with (row.written ++ term.written ∷ []) none)) old.names)) f id named) (stand-in-row next.names next.built (kids ++ kid ∷ []) (row.written ++ term.written ∷ []) all-stand))));
         node_in = omega (arith, closes.node_is, longer);
         keeps = keeps-on row.keeps (keeps-on term.keeps (subst (λ (b : Built). Keeps next (view rest next.names b)) (sym closes.more_is)
             (keeps-node next.tokens rest next.names next.built (labelled (label.Name id (length (kids ++ kid ∷ []))) (kids ++ kid ∷ [])) closes.was)));
@@ -201,21 +201,21 @@ pub term-refused : (tokens rest : List Token) (f : List ℕ) → tokens ≡ toke
 unfolding run step
 term-refused tokens rest f e refused k = ap (λ l. run l (Wants k)) e ∙ refused k
 
-known-room : (names known : List (List ℕ)) (text : List ℕ) → known ≡ known_with text names → length known ≤ length names + 1
-known-room names known text e = let h : length known ≡ length (known_with text names) = ap length e in omega (arith, known-length text names)
+known-room : (names known : List (List ℕ)) (text : List ℕ) → known ≡ with_text text names → length known ≤ length names + 1
+known-room names known text e = let h : length known ≡ length (with_text text names) = ap length e in omega (arith, known-length text names)
 
-grown : (names known : List (List ℕ)) (text : List ℕ) → known ≡ known_with text names → Grows names known
+grown : (names known : List (List ℕ)) (text : List ℕ) → known ≡ with_text text names → Grows names known
 grown names known text e = subst (λ (l : List (List ℕ)). Grows names l) (sym e) (grows-with text names)
 
-listed : (names known : List (List ℕ)) (text : List ℕ) (id : NameId) → known ≡ known_with text names → id.0 ≡ number_of text names → IsNameOf known text id
+listed : (names known : List (List ℕ)) (text : List ℕ) (id : NameId) → known ≡ with_text text names → id.0 ≡ name_number text names → IsNameOf known text id
 listed names known text id e is = subst (λ (l : List (List ℕ)). IsNameOf l text id) (sym e) (name-listed text names id.0 is)
 
 -- a NAME that was read: the names with it
-module _ (tokens : List Token) (names known : List (List ℕ)) (b : Built) (f : List ℕ) (id : NameId) (known_is : known ≡ known_with f names) (id_is : id.0 ≡ number_of f names) where
+module _ (tokens : List Token) (names known : List (List ℕ)) (b : Built) (f : List ℕ) (id : NameId) (known_is : known ≡ with_text f names) (id_is : id.0 ≡ name_number f names) where
   pub name-known : IsNameOf known f id
   name-known = listed names known f id known_is id_is
 
-  pub named-alone : (now : List Token) (c : Built) (n : ℕ) → now ≡ tokens → IsNotNext token.Open tokens → c ≡ with_node b (labelled (label.Name id 0) []) → n ≡ length b.nodes → IsBuilt b →
+  pub named-alone : (now : List Token) (c : Built) (n : ℕ) → now ≡ tokens → IsNotNext token.Open tokens → c ≡ built_with_node b (labelled (label.Name id 0) []) → n ≡ length b.nodes → IsBuilt b →
       ReadsNamed f (view tokens names b) (view now known c) n
   named-alone now c n same alone is node_is built =
       let longer : length c.nodes ≡ length b.nodes + 1 = ap (λ (d : Built). length d.nodes) is ∙ length-append b.nodes (labelled (label.Name id 0) [] ∷ []) in
@@ -227,7 +227,7 @@ module _ (tokens : List Token) (names known : List (List ℕ)) (b : Built) (f : 
         runs = λ k. bare-alone tokens alone f k ∙ ap (λ l. run l (Has (Applied f none) k)) (sym same);
         names_are = known_is;
         stands = subst (λ (d : Built). Stands known d n (Applied f none)) (sym is)
-            (subst (λ (m : ℕ). Stands known (with_node b (labelled (label.Name id 0) [])) m (Applied f none)) (sym node_is)
+            (subst (λ (m : ℕ). Stands known (built_with_node b (labelled (label.Name id 0) [])) m (Applied f none)) (sym node_is)
             (stands-applied known b id f [] none name-known refl));
         node_in = omega (arith, longer);
         keeps = keeps-on (keeps-names tokens tokens b (grown names known f known_is))

@@ -13,82 +13,82 @@ use Rattle.mars_tree.specs.declared.label.NameId.{NameId}
 use Rattle.mars_tree.specs.Graph.{Node, free_leaf, labelled}
 use Rattle.mars_read.specs.Written.{Written, Variable, Applied, Writtens, none, more, Definition}
 use Rattle.mars_read.specs.Meaning.{defined, IsApplied}
-use Rattle.mars_read.specs.Built.{Built, nothing, leaf_of, target_of, target_in, with_node, with_variable, with_target, is_defined, AddsDefinition, Stands, StandInRow, Defines, IsBeginning, Grows, IsBuilt}
+use Rattle.mars_read.specs.Built.{Built, empty_built, leaf_of, gives_way_to, target_in, built_with_node, with_variable, with_target, is_defined, AddsDefinition, Stands, StandInRow, Defines, IsBeginning, BuiltGrows, IsBuilt}
 use Rattle.mars_read.proofs.Building.{with_leaf, with_variable-new, with_variable-known, leaf_in-append, leaf_in-added, slice_get-append, slice_get-new, target-added, target-new, built-leaf, eq-test}
 use Rattle.mars_read.proofs.Trees.{defined-cases}
 
 pub same-names : (names : List (List ℕ)) → IsBeginning names names
 same-names names = ([], sym (append-nil names))
 
-pub grows-not : (b : Built) → Grows b b
+pub grows-not : (b : Built) → BuiltGrows b b
 grows-not b = record { nodes = ([], sym (append-nil b.nodes)); leaves = ([], sym (append-nil b.leaves)) }
 
-pub grows-then : (a b c : Built) → Grows a b → Grows b c → Grows a c
+pub grows-then : (a b c : Built) → BuiltGrows a b → BuiltGrows b c → BuiltGrows a c
 grows-then a b c g h = record {
   nodes = (g.nodes.0 ++ h.nodes.0, h.nodes.1 ∙ ap (λ l. l ++ h.nodes.0) g.nodes.1 ∙ append_assoc a.nodes g.nodes.0 h.nodes.0);
   leaves = (g.leaves.0 ++ h.leaves.0, h.leaves.1 ∙ ap (λ l. l ++ h.leaves.0) g.leaves.1 ∙ append_assoc a.leaves g.leaves.0 h.leaves.0);
 }
 
-pub grows-node : (b : Built) (node : Node) → Grows b (with_node b node)
+pub grows-node : (b : Built) (node : Node) → BuiltGrows b (built_with_node b node)
 grows-node b node = record { nodes = (node ∷ [], refl); leaves = ([], sym (append-nil b.leaves)) }
 
-grows-leaf : (b : Built) (x : List ℕ) → Grows b (with_leaf b x)
+grows-leaf : (b : Built) (x : List ℕ) → BuiltGrows b (with_leaf b x)
 grows-leaf b x = record { nodes = (free_leaf ∷ [], refl); leaves = ((x, length b.nodes) ∷ [], refl) }
 
-pub grows-variable : (b : Built) (x : List ℕ) → Grows b (with_variable b x)
+pub grows-variable : (b : Built) (x : List ℕ) → BuiltGrows b (with_variable b x)
 grows-variable b x = at (leaf_of b x) refl
   where
-    at : (o : Option ℕ) → leaf_of b x ≡ o → Grows b (with_variable b x)
-    at None e = subst (Grows b) (sym (with_variable-new b x e)) (grows-leaf b x)
-    at (Some l) e = subst (Grows b) (sym (with_variable-known b x l e)) (grows-not b)
+    at : (o : Option ℕ) → leaf_of b x ≡ o → BuiltGrows b (with_variable b x)
+    at None e = subst (BuiltGrows b) (sym (with_variable-new b x e)) (grows-leaf b x)
+    at (Some l) e = subst (BuiltGrows b) (sym (with_variable-known b x l e)) (grows-not b)
 
-pub grows-target : (b : Built) (leaf root : ℕ) → Grows b (with_target b leaf root)
+pub grows-target : (b : Built) (leaf root : ℕ) → BuiltGrows b (with_target b leaf root)
 grows-target b leaf root = record { nodes = ([], sym (append-nil b.nodes)); leaves = ([], sym (append-nil b.leaves)) }
 
-pub grows-definition : (x : List ℕ) (root : ℕ) (old new : Built) → AddsDefinition x root old new → Grows old new
-grows-definition x root old new adds = subst (Grows old) (sym adds.whole)
+pub grows-definition : (x : List ℕ) (root : ℕ) (old new : Built) → AddsDefinition x root old new → BuiltGrows old new
+grows-definition x root old new adds = subst (BuiltGrows old) (sym adds.whole)
     (grows-then old (with_variable old x) (with_target (with_variable old x) adds.leaf root) (grows-variable old x) (grows-target (with_variable old x) adds.leaf root))
 
 -- a leaf stays
-pub leaf-grown : (old new : Built) (x : List ℕ) (n : ℕ) → Grows old new → leaf_of old x ≡ Some n → leaf_of new x ≡ Some n
+pub leaf-grown : (old new : Built) (x : List ℕ) (n : ℕ) → BuiltGrows old new → leaf_of old x ≡ Some n → leaf_of new x ≡ Some n
 leaf-grown old new x n g e = subst (λ l. leaf_of (record new { leaves = l }) x ≡ Some n) (sym g.leaves.1) (leaf_in-append x old.leaves g.leaves.0 n e)
 
 name-grown : (names longer : List (List ℕ)) (id : ℕ) (f : List ℕ) → IsBeginning names longer → slice_get names id ≡ Some f → slice_get longer id ≡ Some f
 name-grown names longer id f (further, e) at = subst (λ l. slice_get l id ≡ Some f) (sym e) (slice_get-append names further f id at)
 
-node-grown : (old new : Built) (n : ℕ) (node : Node) → Grows old new → slice_get old.nodes n ≡ Some node → slice_get new.nodes n ≡ Some node
+node-grown : (old new : Built) (n : ℕ) (node : Node) → BuiltGrows old new → slice_get old.nodes n ≡ Some node → slice_get new.nodes n ≡ Some node
 node-grown old new n node g e = subst (λ l. slice_get l n ≡ Some node) (sym g.nodes.1) (slice_get-append old.nodes g.nodes.0 node n e)
 
 -- what stands for a term goes on to stand for it
 mutual
-  pub stands-grown : (names longer : List (List ℕ)) (old new : Built) (n : ℕ) (t : Written) → IsBeginning names longer → Grows old new → Stands names old n t → Stands longer new n t
+  pub stands-grown : (names longer : List (List ℕ)) (old new : Built) (n : ℕ) (t : Written) → IsBeginning names longer → BuiltGrows old new → Stands names old n t → Stands longer new n t
   stands-grown names longer old new n (Variable x) begins g s = leaf-grown old new x n g s
   stands-grown names longer old new n (Applied f terms) begins g (id, kids, named, node, row) =
       (id, kids, name-grown names longer id.0 f begins named, node-grown old new n (labelled (label.Name id (length kids)) kids) g node, row-grown names longer old new kids terms begins g row)
 
-  pub row-grown : (names longer : List (List ℕ)) (old new : Built) (kids : List ℕ) (terms : Writtens) → IsBeginning names longer → Grows old new → StandInRow names old kids terms → StandInRow longer new kids terms
+  pub row-grown : (names longer : List (List ℕ)) (old new : Built) (kids : List ℕ) (terms : Writtens) → IsBeginning names longer → BuiltGrows old new → StandInRow names old kids terms → StandInRow longer new kids terms
   row-grown names longer old new kids none begins g row = row
   row-grown names longer old new kids (more t terms) begins g (kid, rest, e, s, row) = (kid, rest, e, stands-grown names longer old new kid t begins g s, row-grown names longer old new rest terms begins g row)
 
 -- the node of a name over its arguments stands for the whole
 pub stands-applied : (names : List (List ℕ)) (b : Built) (id : NameId) (f : List ℕ) (kids : List ℕ) (terms : Writtens) → slice_get names id.0 ≡ Some f → StandInRow names b kids terms →
-    Stands names (with_node b (labelled (label.Name id (length kids)) kids)) (length b.nodes) (Applied f terms)
+    Stands names (built_with_node b (labelled (label.Name id (length kids)) kids)) (length b.nodes) (Applied f terms)
 stands-applied names b id f kids terms named row =
     let node = labelled (label.Name id (length kids)) kids in
-    (id, kids, named, slice_get-new b.nodes node, row-grown names names b (with_node b node) kids terms (same-names names) (grows-node b node) row)
+    (id, kids, named, slice_get-new b.nodes node, row-grown names names b (built_with_node b node) kids terms (same-names names) (grows-node b node) row)
 
--- nothing is defined so far
-pub defines-nothing : (names : List (List ℕ)) → Defines names nothing []
-defines-nothing names = record { each = λ x leaf e. absurd (cc); known = All-nil (λ d. IsSome (leaf_of nothing d.variable)); applied = All-nil (λ d. IsApplied d.term) }
+-- empty_built is defined so far
+pub defines-nothing : (names : List (List ℕ)) → Defines names empty_built []
+defines-nothing names = record { each = λ x leaf e. absurd (cc); known = All-nil (λ d. IsSome (leaf_of empty_built d.variable)); applied = All-nil (λ d. IsApplied d.term) }
 
-some-grown : (old new : Built) (x : List ℕ) → Grows old new → IsSome (leaf_of old x) → IsSome (leaf_of new x)
+some-grown : (old new : Built) (x : List ℕ) → BuiltGrows old new → IsSome (leaf_of old x) → IsSome (leaf_of new x)
 some-grown old new x g some = at (leaf_of old x) refl some
   where
     at : (o : Option ℕ) → leaf_of old x ≡ o → IsSome o → IsSome (leaf_of new x)
     at None e s = absurd (cc)
     at (Some n) e s = subst IsSome (sym (leaf-grown old new x n g e)) refl
 
-known-grown : (old new : Built) (definitions : List Definition) → Grows old new → All (λ d. IsSome (leaf_of old d.variable)) definitions → All (λ d. IsSome (leaf_of new d.variable)) definitions
+known-grown : (old new : Built) (definitions : List Definition) → BuiltGrows old new → All (λ d. IsSome (leaf_of old d.variable)) definitions → All (λ d. IsSome (leaf_of new d.variable)) definitions
 known-grown old new definitions g known = All-weaker (λ d. IsSome (leaf_of old d.variable)) (λ d. IsSome (leaf_of new d.variable)) (λ d some. some-grown old new d.variable g some) definitions known
 
 leaf-within : (b : Built) (x : List ℕ) (leaf : ℕ) → IsBuilt b → leaf_of b x ≡ Some leaf → leaf < length b.targets
@@ -97,15 +97,15 @@ leaf-within b x leaf built e = omega (arith, slice_get_within b.nodes leaf free_
 -- further names
 pub defines-longer : (names longer : List (List ℕ)) (b : Built) (definitions : List Definition) → IsBeginning names longer → Defines names b definitions → Defines longer b definitions
 defines-longer names longer b definitions begins defs =
-    record { each = λ x leaf e. stands-grown names longer b b (target_of b leaf) (defined definitions x) begins (grows-not b) (defs.each x leaf e); known = defs.known; applied = defs.applied }
+    record { each = λ x leaf e. stands-grown names longer b b (gives_way_to b leaf) (defined definitions x) begins (grows-not b) (defs.each x leaf e); known = defs.known; applied = defs.applied }
 
 -- a further node
-pub defines-node : (names : List (List ℕ)) (b : Built) (node : Node) (definitions : List Definition) → IsBuilt b → Defines names b definitions → Defines names (with_node b node) definitions
+pub defines-node : (names : List (List ℕ)) (b : Built) (node : Node) (definitions : List Definition) → IsBuilt b → Defines names b definitions → Defines names (built_with_node b node) definitions
 defines-node names b node definitions built defs = record {
   each = λ x leaf e.
-      let stays : target_of (with_node b node) leaf ≡ target_of b leaf = target-added b.targets (length b.nodes) leaf (leaf-within b x leaf built e) in
-      subst (λ n. Stands names (with_node b node) n (defined definitions x)) (sym stays)
-      (stands-grown names names b (with_node b node) (target_of b leaf) (defined definitions x) (same-names names) (grows-node b node) (defs.each x leaf e));
+      let stays : gives_way_to (built_with_node b node) leaf ≡ gives_way_to b leaf = target-added b.targets (length b.nodes) leaf (leaf-within b x leaf built e) in
+      subst (λ n. Stands names (built_with_node b node) n (defined definitions x)) (sym stays)
+      (stands-grown names names b (built_with_node b node) (gives_way_to b leaf) (defined definitions x) (same-names names) (grows-node b node) (defs.each x leaf e));
   known = defs.known;
   applied = defs.applied;
 }
@@ -130,13 +130,13 @@ defines-leaf : (names : List (List ℕ)) (b : Built) (x : List ℕ) (definitions
 defines-leaf names b x definitions built new defs = record {
   each = λ y leaf e. elim (leaf_in-added y x b.leaves (length b.nodes) leaf e) [
     | inl old ↦
-        let stays : target_of (with_leaf b x) leaf ≡ target_of b leaf = target-added b.targets (length b.nodes) leaf (leaf-within b y leaf built old) in
+        let stays : gives_way_to (with_leaf b x) leaf ≡ gives_way_to b leaf = target-added b.targets (length b.nodes) leaf (leaf-within b y leaf built old) in
         subst (λ n. Stands names (with_leaf b x) n (defined definitions y)) (sym stays)
-        (stands-grown names names b (with_leaf b x) (target_of b leaf) (defined definitions y) (same-names names) (grows-leaf b x) (defs.each y leaf old))
+        (stands-grown names names b (with_leaf b x) (gives_way_to b leaf) (defined definitions y) (same-names names) (grows-leaf b x) (defs.each y leaf old))
     | inr there ↦
-        let itself : target_of (with_leaf b x) leaf ≡ leaf = subst (λ k. target_in (b.targets ++ k ∷ []) leaf ≡ leaf) there.1 (target-new b.targets leaf (there.1 ∙ sym built.size)) in
+        let itself : gives_way_to (with_leaf b x) leaf ≡ leaf = subst (λ k. target_in (b.targets ++ k ∷ []) leaf ≡ leaf) there.1 (target-new b.targets leaf (there.1 ∙ sym built.size)) in
         let undefined : defined definitions y ≡ Variable y = subst (λ z. defined definitions z ≡ Variable z) (sym there.0) (unknown-undefined b x definitions new defs.known) in
-        subst (λ t. Stands names (with_leaf b x) (target_of (with_leaf b x) leaf) t) (sym undefined) (e ∙ ap Some (sym itself))
+        subst (λ t. Stands names (with_leaf b x) (gives_way_to (with_leaf b x) leaf) t) (sym undefined) (e ∙ ap Some (sym itself))
   ];
   known = known-grown b (with_leaf b x) definitions (grows-leaf b x) defs.known;
   applied = defs.applied;
@@ -173,15 +173,15 @@ not-test n m h = grind (arith, nat_tests)
 pub defined-applied : (names : List (List ℕ)) (b : Built) (x : List ℕ) (definitions : List Definition) → IsBuilt b → Defines names b definitions → is_defined b x ≡ true → IsApplied (defined definitions x)
 defined-applied names b x definitions built defs is = at (leaf_of b x) refl is
   where
-    given : (leaf : ℕ) → leaf_of b x ≡ Some leaf → (target_of b leaf ≡ leaf → ⊥) → (t : Written) → defined definitions x ≡ t → Stands names b (target_of b leaf) t → (t ≡ Variable x) ⊎ IsApplied t → IsApplied t
+    given : (leaf : ℕ) → leaf_of b x ≡ Some leaf → (gives_way_to b leaf ≡ leaf → ⊥) → (t : Written) → defined definitions x ≡ t → Stands names b (gives_way_to b leaf) t → (t ≡ Variable x) ⊎ IsApplied t → IsApplied t
     given leaf e other t same s (inr applied) = applied
-    given leaf e other t same s (inl variable) = absurd (let there : leaf_of b x ≡ Some (target_of b leaf) = subst (λ t. Stands names b (target_of b leaf) t) variable s in other cc)
+    given leaf e other t same s (inl variable) = absurd (let there : leaf_of b x ≡ Some (gives_way_to b leaf) = subst (λ t. Stands names b (gives_way_to b leaf) t) variable s in other cc)
 
     at : (o : Option ℕ) → leaf_of b x ≡ o → is_defined b x ≡ true → IsApplied (defined definitions x)
-    at None e is = absurd (let no : is_defined b x ≡ false = ap (λ o. option_map_or (λ l. not (target_of b l == l)) o false) e in cc)
+    at None e is = absurd (let no : is_defined b x ≡ false = ap (λ o. option_map_or (λ l. not (gives_way_to b l == l)) o false) e in cc)
     at (Some leaf) e is =
-        let test : is_defined b x ≡ not (target_of b leaf == leaf) = ap (λ o. option_map_or (λ l. not (target_of b l == l)) o false) e in
-        given leaf e (λ same. let yes : (target_of b leaf == leaf) ≡ true = eq-test (target_of b leaf) leaf same in let no : not (target_of b leaf == leaf) ≡ true = sym test ∙ is in cc) (defined definitions x) refl (defs.each x leaf e)
+        let test : is_defined b x ≡ not (gives_way_to b leaf == leaf) = ap (λ o. option_map_or (λ l. not (gives_way_to b l == l)) o false) e in
+        given leaf e (λ same. let yes : (gives_way_to b leaf == leaf) ≡ true = eq-test (gives_way_to b leaf) leaf same in let no : not (gives_way_to b leaf == leaf) ≡ true = sym test ∙ is in cc) (defined definitions x) refl (defs.each x leaf e)
         (defined-cases x definitions defs.applied)
 
 pub undefined-variable : (names : List (List ℕ)) (b : Built) (x : List ℕ) (definitions : List Definition) → IsBuilt b → Defines names b definitions → is_defined b x ≡ false → defined definitions x ≡ Variable x
@@ -192,8 +192,8 @@ undefined-variable names b x definitions built defs is = at (leaf_of b x) refl
     at (Some leaf) e = elim (defined-cases x definitions defs.applied) [
       | inl variable ↦ variable
       | inr applied ↦ absurd (
-          let test : is_defined b x ≡ not (target_of b leaf == leaf) = ap (λ o. option_map_or (λ l. not (target_of b l == l)) o false) e in
-          let itself : target_of b leaf ≡ leaf = not-test (target_of b leaf) leaf (sym test ∙ is) in
+          let test : is_defined b x ≡ not (gives_way_to b leaf == leaf) = ap (λ o. option_map_or (λ l. not (gives_way_to b l == l)) o false) e in
+          let itself : gives_way_to b leaf ≡ leaf = not-test (gives_way_to b leaf) leaf (sym test ∙ is) in
           leaf-no-name names b x leaf (defined definitions x) built e (subst (λ n. Stands names b n (defined definitions x)) itself (defs.each x leaf e)) applied)
     ]
 
@@ -219,10 +219,10 @@ defined-other x y t (d ∷ definitions) other = at (bytes_eq y d.variable) (defi
     at true ih = refl
     at false ih = ih
 
-target-set : (b : Built) (leaf root : ℕ) → leaf < length b.targets → target_of (with_target b leaf root) leaf ≡ root
+target-set : (b : Built) (leaf root : ℕ) → leaf < length b.targets → gives_way_to (with_target b leaf root) leaf ≡ root
 target-set b leaf root less = get_or-set_same b.targets leaf root leaf less
 
-target-kept : (b : Built) (leaf root n : ℕ) → (n ≡ leaf → ⊥) → target_of (with_target b leaf root) n ≡ target_of b n
+target-kept : (b : Built) (leaf root n : ℕ) → (n ≡ leaf → ⊥) → gives_way_to (with_target b leaf root) n ≡ gives_way_to b n
 target-kept b leaf root n other = get_or-set_other b.targets leaf n root n other
 
 defines-target : (names : List (List ℕ)) (b : Built) (x : List ℕ) (leaf root : ℕ) (t : Written) (definitions : List Definition) → IsBuilt b → Defines names b definitions → leaf_of b x ≡ Some leaf → defined definitions x ≡ Variable x → Stands names b root t → IsApplied t →
@@ -239,21 +239,21 @@ defines-target names b x leaf root t definitions built defs found undefined s ap
     grown : (n : ℕ) (w : Written) → Stands names b n w → Stands names (with_target b leaf root) n w
     grown n w s = stands-grown names names b (with_target b leaf root) n w (same-names names) (grows-target b leaf root) s
 
-    here : (y : List ℕ) (l : ℕ) → leaf_of b y ≡ Some l → y ≡ x → Stands names (with_target b leaf root) (target_of (with_target b leaf root) l) (defined (definitions ++ record { variable = x; term = t } ∷ []) y)
+    here : (y : List ℕ) (l : ℕ) → leaf_of b y ≡ Some l → y ≡ x → Stands names (with_target b leaf root) (gives_way_to (with_target b leaf root) l) (defined (definitions ++ record { variable = x; term = t } ∷ []) y)
     here y l e same =
         let leaves : l ≡ leaf = let also : leaf_of b x ≡ Some l = subst (λ z. leaf_of b z ≡ Some l) same e in cc in
-        let target : target_of (with_target b leaf root) l ≡ root = ap (target_of (with_target b leaf root)) leaves ∙ target-set b leaf root (leaf-within b x leaf built found) in
+        let target : gives_way_to (with_target b leaf root) l ≡ root = ap (gives_way_to (with_target b leaf root)) leaves ∙ target-set b leaf root (leaf-within b x leaf built found) in
         let term : defined (definitions ++ record { variable = x; term = t } ∷ []) y ≡ t = ap (defined (definitions ++ record { variable = x; term = t } ∷ [])) same ∙ defined-last x t definitions defs.applied undefined in
         subst (λ n. Stands names (with_target b leaf root) n (defined (definitions ++ record { variable = x; term = t } ∷ []) y)) (sym target)
         (subst (λ w. Stands names (with_target b leaf root) root w) (sym term) (grown root t s))
 
-    at : (y : List ℕ) (l : ℕ) → leaf_of b y ≡ Some l → (v : Bool) → bytes_eq y x ≡ v → Stands names (with_target b leaf root) (target_of (with_target b leaf root) l) (defined (definitions ++ record { variable = x; term = t } ∷ []) y)
+    at : (y : List ℕ) (l : ℕ) → leaf_of b y ≡ Some l → (v : Bool) → bytes_eq y x ≡ v → Stands names (with_target b leaf root) (gives_way_to (with_target b leaf root) l) (defined (definitions ++ record { variable = x; term = t } ∷ []) y)
     at y l e true is = here y l e ((bytes_eq-Decides y x).0 is)
     at y l e false is =
         let other : y ≡ x → ⊥ = λ same. let yes : bytes_eq y x ≡ true = (bytes_eq-Decides y x).1 same in cc in
-        let target : target_of (with_target b leaf root) l ≡ target_of b l = target-kept b leaf root l (λ same. other (built.apart y x leaf (subst (λ k. leaf_of b y ≡ Some k) same e) found)) in
+        let target : gives_way_to (with_target b leaf root) l ≡ gives_way_to b l = target-kept b leaf root l (λ same. other (built.apart y x leaf (subst (λ k. leaf_of b y ≡ Some k) same e) found)) in
         subst (λ n. Stands names (with_target b leaf root) n (defined (definitions ++ record { variable = x; term = t } ∷ []) y)) (sym target)
-        (subst (λ w. Stands names (with_target b leaf root) (target_of b l) w) (sym (defined-other x y t definitions other)) (grown (target_of b l) (defined definitions y) (defs.each y l e)))
+        (subst (λ w. Stands names (with_target b leaf root) (gives_way_to b l) w) (sym (defined-other x y t definitions other)) (grown (gives_way_to b l) (defined definitions y) (defs.each y l e)))
 
 -- after a definition of a variable that had none
 pub defines-definition : (names : List (List ℕ)) (old new : Built) (x : List ℕ) (root : ℕ) (t : Written) (definitions : List Definition) → IsBuilt old → AddsDefinition x root old new → is_defined old x ≡ false → Defines names old definitions → Stands names old root t → IsApplied t →

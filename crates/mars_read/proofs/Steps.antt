@@ -6,7 +6,7 @@ use Rattle.std.proofs.lemmas.List.{drop-drop}
 use Rattle.std.proofs.lemmas.List.Elements.{All-cons, All-head, All-tail, All-nil}
 use Rattle.mars_read.specs.Bytes.{is_blank}
 use Rattle.mars_read.specs.Token.{Token}
-use Rattle.mars_read.specs.Lexed.{is_token, IsLongest, Begins, BeginsNone, AreTokens, IsShort, opened, deepest, AreWithinLimits, IsLexed, OneTokenList, IsNotLexed, HasNoToken}
+use Rattle.mars_read.specs.Lexed.{is_token, IsLongest, Begins, BeginsNone, AreTokens, IsShort, open_after, deepest, AreWithinLimits, IsLexed, OneTokenList, IsNotLexed, HasNoToken}
 use Rattle.mars_read.proofs.FirstToken.{prefix-all}
 use Rattle.mars_read.proofs.Lexing.{begins-one, begins-behind, token-first, short-token}
 
@@ -61,13 +61,13 @@ pub record LexedTo (bytes : List ℕ) (tokens : List Token) (rest : List ℕ) (d
 pub lexed-none : (bytes : List ℕ) → LexedTo bytes [] bytes 0
 lexed-none bytes = record { nesting = omega arith; before = λ others l. l; only = λ all l. record { others = all; whole = refl; limits = l } }
 
-with-first : (depth : ℕ) (rest after : List ℕ) (t : Token) (others : List Token) → depth ≤ 200 → Begins rest t after → IsShort t → AreWithinLimits (opened depth t) after others → AreWithinLimits depth rest (t ∷ others)
+with-first : (depth : ℕ) (rest after : List ℕ) (t : Token) (others : List Token) → depth ≤ 200 → Begins rest t after → IsShort t → AreWithinLimits (open_after depth t) after others → AreWithinLimits depth rest (t ∷ others)
 with-first depth rest after t others fits b short l = record { lexed = (after, b, l.lexed); short = All-cons IsShort t others short l.short; nesting = let deep = l.nesting in omega arith }
 
 pub record Behind (depth : ℕ) (after : List ℕ) (t s : Token) (others : List Token) : Type 0 where
   pub token : s ≡ t
   pub short : IsShort t
-  pub limits : AreWithinLimits (opened depth t) after others
+  pub limits : AreWithinLimits (open_after depth t) after others
 
 behind-first : (depth : ℕ) (rest after : List ℕ) (t s : Token) (others : List Token) → Begins rest t after → AreWithinLimits depth rest (s ∷ others) → Behind depth after t s others
 behind-first depth rest after t s others b l =
@@ -78,14 +78,14 @@ behind-first depth rest after t s others b l =
       limits = record {
         lexed = subst (λ r. AreTokens r others) same.rest l.lexed.2;
         short = All-tail IsShort s others l.short;
-        nesting = subst (λ x. deepest (opened depth x) others ≤ 200) same.token (let deep = l.nesting in omega arith);
+        nesting = subst (λ x. deepest (open_after depth x) others ≤ 200) same.token (let deep = l.nesting in omega arith);
       };
     }
 
 none-else : (depth : ℕ) (rest after : List ℕ) (t : Token) → Begins rest t after → AreWithinLimits depth rest [] → ⊥
 none-else depth rest after t b l = blanks-no-token rest after t l.lexed b
 
-only-more : (bytes rest after : List ℕ) (tokens : List Token) (depth : ℕ) (t : Token) (all others : List Token) → Begins rest t after → all ≡ tokens ++ others → AreWithinLimits depth rest others → GoesOn (tokens ++ t ∷ []) (opened depth t) after all
+only-more : (bytes rest after : List ℕ) (tokens : List Token) (depth : ℕ) (t : Token) (all others : List Token) → Begins rest t after → all ≡ tokens ++ others → AreWithinLimits depth rest others → GoesOn (tokens ++ t ∷ []) (open_after depth t) after all
 only-more bytes rest after tokens depth t all [] b e l = absurd (none-else depth rest after t b l)
 only-more bytes rest after tokens depth t all (s ∷ others) b e l =
     let behind = behind-first depth rest after t s others b l in
@@ -96,7 +96,7 @@ only-more bytes rest after tokens depth t all (s ∷ others) b e l =
     }
 
 -- one token more
-pub lexed-more : (bytes rest after : List ℕ) (tokens : List Token) (depth : ℕ) (t : Token) → LexedTo bytes tokens rest depth → Begins rest t after → IsShort t → opened depth t ≤ 200 → LexedTo bytes (tokens ++ t ∷ []) after (opened depth t)
+pub lexed-more : (bytes rest after : List ℕ) (tokens : List Token) (depth : ℕ) (t : Token) → LexedTo bytes tokens rest depth → Begins rest t after → IsShort t → open_after depth t ≤ 200 → LexedTo bytes (tokens ++ t ∷ []) after (open_after depth t)
 lexed-more bytes rest after tokens depth t so_far b short fits = record {
   nesting = fits;
   before = λ others l. subst (λ ts. IsLexed bytes ts) (sym (append_assoc tokens (t ∷ []) others)) (so_far.before (t ∷ others) (with-first depth rest after t others so_far.nesting b short l));
@@ -108,12 +108,12 @@ pub lexed-end : (bytes rest : List ℕ) (tokens : List Token) (depth : ℕ) → 
 lexed-end bytes rest tokens depth so_far e = subst (λ ts. IsLexed bytes ts) (append-nil tokens) (so_far.before [] (record { lexed = e; short = All-nil IsShort; nesting = so_far.nesting }))
 
 -- one bracket too many
-pub lexed-deep : (bytes rest after : List ℕ) (tokens : List Token) (depth : ℕ) (t : Token) → LexedTo bytes tokens rest depth → Begins rest t after → 200 < opened depth t → IsNotLexed bytes
+pub lexed-deep : (bytes rest after : List ℕ) (tokens : List Token) (depth : ℕ) (t : Token) → LexedTo bytes tokens rest depth → Begins rest t after → 200 < open_after depth t → IsNotLexed bytes
 lexed-deep bytes rest after tokens depth t so_far b over all l = let on = so_far.only all l in at on.others on.limits
   where
     at : (others : List Token) → AreWithinLimits depth rest others → ⊥
     at [] l = none-else depth rest after t b l
-    at (s ∷ others) l = let deep = (behind-first depth rest after t s others b l).limits.nesting in let fits = depth-within (opened depth t) others in omega arith
+    at (s ∷ others) l = let deep = (behind-first depth rest after t s others b l).limits.nesting in let fits = depth-within (open_after depth t) others in omega arith
 
 -- nothing that could come next
 pub lexed-bad : (bytes rest : List ℕ) (tokens : List Token) (depth : ℕ) → LexedTo bytes tokens rest depth → list_all is_blank rest ≡ false → HasNoToken (drop (prefix_len is_blank rest) rest) → IsNotLexed bytes

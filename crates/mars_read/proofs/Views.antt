@@ -4,8 +4,8 @@ use Rattle.std.specs.List.{AllZip}
 use Rattle.mars_tree.specs.Graph.{Node, free_leaf}
 use Rattle.mars_read.specs.Token.{Token}
 use Rattle.mars_read.specs.Written.{Written, none}
-use Rattle.mars_read.specs.Machine.{joined}
-use Rattle.mars_read.specs.Built.{Built, leaf_of, with_node, with_variable, Stands, StandInRow, IsBeginning, IsBuilt}
+use Rattle.mars_read.specs.Machine.{row_with}
+use Rattle.mars_read.specs.Built.{Built, leaf_of, built_with_node, with_variable, Stands, StandInRow, IsBeginning, IsBuilt}
 use Rattle.mars_read.specs.Reading.{View, view, Keeps}
 use Rattle.mars_read.proofs.Naming.{Grows}
 use Rattle.mars_read.proofs.Standing.{same-names, grows-not, grows-node, grows-variable, stands-grown, defines-longer, defines-node, defines-variable}
@@ -31,14 +31,14 @@ keeps-variable ts us names b x built = record {
   defines = λ ds d. defines-variable names b x ds built d;
 }
 
-pub keeps-node : (ts us : List Token) (names : List (List ℕ)) (b : Built) (node : Node) → IsBuilt b → Keeps (view ts names b) (view us names (with_node b node))
+pub keeps-node : (ts us : List Token) (names : List (List ℕ)) (b : Built) (node : Node) → IsBuilt b → Keeps (view ts names b) (view us names (built_with_node b node))
 keeps-node ts us names b node built = record {
-  stands = λ n t s. stands-grown names names b (with_node b node) n t (same-names names) (grows-node b node) s;
+  stands = λ n t s. stands-grown names names b (built_with_node b node) n t (same-names names) (grows-node b node) s;
   defines = λ ds d. defines-node names b node ds built d;
 }
 
 -- a row of nodes for a row of terms
-pub stand-in-row : (names : List (List ℕ)) (b : Built) (kids : List ℕ) (front : List Written) → AllZip (λ n t. Stands names b n t) kids front → StandInRow names b kids (joined front none)
+pub stand-in-row : (names : List (List ℕ)) (b : Built) (kids : List ℕ) (front : List Written) → AllZip (λ n t. Stands names b n t) kids front → StandInRow names b kids (row_with front none)
 stand-in-row names b [] [] are = refl
 stand-in-row names b [] (t ∷ front) are = absurd are
 stand-in-row names b (kid ∷ kids) [] are = absurd are

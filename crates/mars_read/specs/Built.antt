@@ -14,8 +14,8 @@ pub record Built : Type 0 where
   pub targets : List ℕ
   pub leaves : List (List ℕ × ℕ)
 
-abbrev pub nothing : Built
-nothing = record { nodes = []; targets = []; leaves = [] }
+abbrev pub empty_built : Built
+empty_built = record { nodes = []; targets = []; leaves = [] }
 
 -- the leaf of a variable
 abbrev pub leaf_in : List ℕ → List (List ℕ × ℕ) → Option ℕ
@@ -29,12 +29,12 @@ leaf_of b x = leaf_in x b.leaves
 abbrev pub target_in : List ℕ → ℕ → ℕ
 target_in targets n = slice_index_or targets n n
 
-abbrev pub target_of : Built → ℕ → ℕ
-target_of b n = target_in b.targets n
+abbrev pub gives_way_to : Built → ℕ → ℕ
+gives_way_to b n = target_in b.targets n
 
 -- with one node more
-abbrev pub with_node : Built → Node → Built
-with_node b node = record { nodes = b.nodes ++ node ∷ []; targets = b.targets ++ length b.nodes ∷ []; leaves = b.leaves }
+abbrev pub built_with_node : Built → Node → Built
+built_with_node b node = record { nodes = b.nodes ++ node ∷ []; targets = b.targets ++ length b.nodes ∷ []; leaves = b.leaves }
 
 -- with the leaf of a variable, which is new where the variable is
 abbrev pub with_variable : Built → List ℕ → Built
@@ -48,7 +48,7 @@ with_target b leaf root = record b { targets = slice_set b.targets leaf root }
 
 -- whether a variable has a definition: its leaf gives way to another node
 abbrev pub is_defined : Built → List ℕ → Bool
-is_defined b x = option_map_or (λ leaf. not (target_of b leaf == leaf)) (leaf_of b x) false
+is_defined b x = option_map_or (λ leaf. not (gives_way_to b leaf == leaf)) (leaf_of b x) false
 
 -- the variable's leaf now gives way to the root
 pub record AddsDefinition (x : List ℕ) (root : ℕ) (old new : Built) : Type 0 where
@@ -69,7 +69,7 @@ abbrev mutual
 
 -- the definitions so far: each variable gives way to a node that stands for what it is defined as
 pub record Defines (names : List (List ℕ)) (b : Built) (definitions : List Definition) : Type 0 where
-  pub each : (x : List ℕ) (leaf : ℕ) → leaf_of b x ≡ Some leaf → Stands names b (target_of b leaf) (defined definitions x)
+  pub each : (x : List ℕ) (leaf : ℕ) → leaf_of b x ≡ Some leaf → Stands names b (gives_way_to b leaf) (defined definitions x)
   pub known : All (λ d. IsSome (leaf_of b d.variable)) definitions
   pub applied : All (λ d. IsApplied d.term) definitions
 
@@ -78,7 +78,7 @@ abbrev pub IsBeginning : List (List ℕ) → List (List ℕ) → Type 0
 IsBeginning names longer = (more : List (List ℕ)) × (longer ≡ names ++ more)
 
 -- further nodes and variables
-pub record Grows (old new : Built) : Type 0 where
+pub record BuiltGrows (old new : Built) : Type 0 where
   pub nodes : (more : List Node) × (new.nodes ≡ old.nodes ++ more)
   pub leaves : (more : List (List ℕ × ℕ)) × (new.leaves ≡ old.leaves ++ more)
 
@@ -103,7 +103,7 @@ pub record IsBuilt (b : Built) : Type 0 where
   pub size : length b.targets ≡ length b.nodes
   pub in_range : All (λ target. target < length b.nodes) b.targets
   -- a labelled node gives way to none
-  pub kept : (n : ℕ) (node : Node) → slice_get b.nodes n ≡ Some node → node.label ≢ None → target_of b n ≡ n
+  pub kept : (n : ℕ) (node : Node) → slice_get b.nodes n ≡ Some node → node.label ≢ None → gives_way_to b n ≡ n
   pub free : (x : List ℕ) (leaf : ℕ) → leaf_of b x ≡ Some leaf → slice_get b.nodes leaf ≡ Some free_leaf
   -- two variables have two leaves
   pub apart : (x y : List ℕ) (leaf : ℕ) → leaf_of b x ≡ Some leaf → leaf_of b y ≡ Some leaf → x ≡ y

@@ -2,10 +2,10 @@
 use Rattle.std.specs.Prelude.{◌≡◌, ℕ, ◌+◌, ◌<◌, ◌≤◌, List, [], ◌∷◌, length, slice_get, Option, Some, None}
 use Rattle.std.specs.List.{AllZip}
 use Rattle.mars_tree.specs.declared.label.NameId.{NameId}
-use Rattle.mars_tree.specs.Names.{built_in_names, known_with}
+use Rattle.mars_tree.specs.Names.{built_in_names, with_text}
 use Rattle.mars_read.specs.declared.first.First.{First}
 use Rattle.mars_read.specs.declared.first.FirstPut.{FirstPut}
-use Rattle.mars_read.specs.Written.{Put, Script, names_of}
+use Rattle.mars_read.specs.Written.{WrittenPut, Script, names_in_script}
 use Rattle.mars_read.specs.Meaning.{IsTreeOf}
 use Rattle.mars_read.specs.Token.{Token}
 use Rattle.mars_read.specs.Lexed.{IsLexed}
@@ -14,14 +14,14 @@ use Rattle.mars_read.specs.Grammar.{IsScript}
 -- the names with further texts, each at its first appearance
 abbrev pub known_all : List (List ℕ) → List (List ℕ) → List (List ℕ)
 known_all [] names = names
-known_all (text ∷ texts) names = known_all texts (known_with text names)
+known_all (text ∷ texts) names = known_all texts (with_text text names)
 
 -- the name's number is the place of its spelling
 abbrev pub IsNameOf : List (List ℕ) → List ℕ → NameId → Type 0
 IsNameOf names text id = slice_get names id.0 ≡ Some text
 
 -- a command by its numbers
-pub record IsPutOf (names : List (List ℕ)) (written : Put) (put : FirstPut) : Type 0 where
+pub record IsPutOf (names : List (List ℕ)) (written : WrittenPut) (put : FirstPut) : Type 0 where
   pub name : IsNameOf names written.name put.name
   pub tree : IsTreeOf names written.tree put.graph put.root
   pub root_in : put.root < length put.graph
@@ -34,7 +34,7 @@ IsSessionOf names _ _ = ⊥
 
 -- a whole text by its numbers: the names are the thirteen and those of the text
 pub record IsFirstOf (written : Script) (first : First) : Type 0 where
-  pub names : first.names ≡ known_all (names_of written) built_in_names
+  pub names : first.names ≡ known_all (names_in_script written) built_in_names
   pub session : IsSessionOf first.names written.session first.session
   pub puts : AllZip (IsPutOf first.names) written.puts first.puts
 

@@ -4,14 +4,14 @@ use Rattle.std.specs.Str.{bytes_eq}
 use Rattle.std.specs.List.{list_any}
 use Rattle.mars_read.specs.Token.{Token}
 use Rattle.mars_read.specs.Token as token
-use Rattle.mars_read.specs.Written.{Written, Variable, Applied, Writtens, none, more, count, Definition, Tree, Put, Script}
+use Rattle.mars_read.specs.Written.{Written, Variable, Applied, Writtens, none, more, argument_count, Definition, WrittenTree, WrittenPut, Script}
 
 mutual
   -- TERM: a VAR, a NAME, or a NAME and at most 16 arguments in brackets
   pub data IsTerm : List Token → Written → Type 0 where
     variable : {x : List ℕ} → IsTerm (token.Variable x ∷ []) (Variable x)
     name : {f : List ℕ} → IsTerm (token.Name f ∷ []) (Applied f none)
-    applied : {f : List ℕ} {ts : List Token} {terms : Writtens} → AreTerms ts terms → count terms ≤ 16 →
+    applied : {f : List ℕ} {ts : List Token} {terms : Writtens} → AreTerms ts terms → argument_count terms ≤ 16 →
         IsTerm (token.Name f ∷ token.Open ∷ (ts ++ (token.Close ∷ []))) (Applied f terms)
 
   -- TERM {, TERM}
@@ -34,28 +34,28 @@ abbrev pub is_among : List ℕ → List Definition → Bool
 is_among x definitions = list_any (λ d. bytes_eq x d.variable) definitions
 
 -- no variable is defined twice: none stands among those before it
-abbrev pub AreNew : List Definition → List Definition → Type 0
-AreNew before [] = Unit {0}
-AreNew before (d ∷ definitions) = (is_among d.variable before ≡ false) × AreNew (before ++ d ∷ []) definitions
+abbrev pub DefinesOnce : List Definition → List Definition → Type 0
+DefinesOnce before [] = Unit {0}
+DefinesOnce before (d ∷ definitions) = (is_among d.variable before ≡ false) × DefinesOnce (before ++ d ∷ []) definitions
 
 -- TREE: a TERM, or a TERM `where` DEF {, DEF}
-pub data IsTree : List Token → Tree → Type 0 where
-  plain : {ts : List Token} {t : Written} → IsTerm ts t → IsTree ts (record { term = t; definitions = [] })
-  defined : {ts us : List Token} {t : Written} {ds : List Definition} → IsTerm ts t → AreDefinitions us ds → AreNew [] ds →
-      IsTree (ts ++ token.Where ∷ us) (record { term = t; definitions = ds })
+pub data IsTreeForm : List Token → WrittenTree → Type 0 where
+  plain : {ts : List Token} {t : Written} → IsTerm ts t → IsTreeForm ts (record { term = t; definitions = [] })
+  defined : {ts us : List Token} {t : Written} {ds : List Definition} → IsTerm ts t → AreDefinitions us ds → DefinesOnce [] ds →
+      IsTreeForm (ts ++ token.Where ∷ us) (record { term = t; definitions = ds })
 
 -- `put` NAME TREE `;`
-pub data IsPut : List Token → Put → Type 0 where
-  put : {n : List ℕ} {ts : List Token} {tree : Tree} → IsTree ts tree →
+pub data IsPut : List Token → WrittenPut → Type 0 where
+  put : {n : List ℕ} {ts : List Token} {tree : WrittenTree} → IsTreeForm ts tree →
       IsPut (token.Name (codes "put") ∷ token.Name n ∷ (ts ++ (token.Semicolon ∷ []))) (record { name = n; tree = tree })
 
 -- any number of commands
-pub data ArePuts : List Token → List Put → Type 0 where
+pub data ArePuts : List Token → List WrittenPut → Type 0 where
   no_puts : ArePuts [] []
-  puts : {ts us : List Token} {p : Put} {ps : List Put} → IsPut ts p → ArePuts us ps → ArePuts (ts ++ us) (p ∷ ps)
+  puts : {ts us : List Token} {p : WrittenPut} {ps : List WrittenPut} → IsPut ts p → ArePuts us ps → ArePuts (ts ++ us) (p ∷ ps)
 
 -- `rules end`, or `rules session` NAME, at most 256 commands, and `end`
 pub data IsScript : List Token → Script → Type 0 where
   empty : IsScript (token.Rules ∷ token.Ends ∷ []) (record { session = None; puts = [] })
-  session : {n : List ℕ} {ts : List Token} {ps : List Put} → ArePuts ts ps → length ps ≤ 256 →
+  session : {n : List ℕ} {ts : List Token} {ps : List WrittenPut} → ArePuts ts ps → length ps ≤ 256 →
       IsScript (token.Rules ∷ token.Session ∷ token.Name n ∷ (ts ++ (token.Ends ∷ []))) (record { session = Some n; puts = ps })

@@ -45,15 +45,15 @@ IsShort (Odd text) = length text ≤ 64
 IsShort _ = Unit {0}
 
 -- how many brackets are open behind a token, where `depth` are in front of it; one that closes where none is open changes nothing
-abbrev pub opened : ℕ → Token → ℕ
-opened depth Open = depth + 1
-opened depth Close = depth - 1
-opened depth _ = depth
+abbrev pub open_after : ℕ → Token → ℕ
+open_after depth Open = depth + 1
+open_after depth Close = depth - 1
+open_after depth _ = depth
 
 -- the most brackets that are open at once, where `depth` are in front
 abbrev pub deepest : ℕ → List Token → ℕ
 deepest depth [] = depth
-deepest depth (token ∷ tokens) = max depth (deepest (opened depth token) tokens)
+deepest depth (token ∷ tokens) = max depth (deepest (open_after depth token) tokens)
 
 -- the tokens of the bytes, within the limits on tokens, where `depth` brackets are open in front
 pub record AreWithinLimits (depth : ℕ) (bytes : List ℕ) (tokens : List Token) : Type 0 where

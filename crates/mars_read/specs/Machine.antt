@@ -3,13 +3,13 @@ use Rattle.std.specs.Prelude.{ℕ, List, [], ◌∷◌, ◌++◌, length, Option
 use Rattle.std.specs.Str.{bytes_eq}
 use Rattle.mars_read.specs.Token.{Token}
 use Rattle.mars_read.specs.Token as token
-use Rattle.mars_read.specs.Written.{Written, Variable, Applied, Writtens, none, more, Definition, Put, Script}
+use Rattle.mars_read.specs.Written.{Written, Variable, Applied, Writtens, none, more, Definition, WrittenPut, Script}
 use Rattle.mars_read.specs.Grammar.{is_among}
 
 -- where a command stands: the session, the commands before it, and its name
 pub record Head : Type 0 where
   pub session : List ℕ
-  pub puts : List Put
+  pub puts : List WrittenPut
   pub name : List ℕ
 
 -- what is open: the TERM of a TREE, that of a definition behind others, or a row of arguments behind those before
@@ -19,30 +19,30 @@ pub data Stack : Type 0 where
   InRow : List ℕ → List Written → Stack → Stack
 
 -- what must come next, and what has been read; a state that stands for a text, Whole, has nothing behind it
-pub data State : Type 0 where
-  Starts : State
+pub data ReaderState : Type 0 where
+  Starts : ReaderState
   -- behind `rules`, and behind `session`
-  Ruled : State
-  Named : State
+  Ruled : ReaderState
+  Named : ReaderState
   -- a command or `end`, behind the commands before; a command's name
-  Commands : List ℕ → List Put → State
-  Puts : List ℕ → List Put → State
+  Commands : List ℕ → List WrittenPut → ReaderState
+  Puts : List ℕ → List WrittenPut → ReaderState
   -- a TERM; what stands behind a NAME, which may have arguments; what stands behind a TERM
-  Wants : Stack → State
-  Bare : List ℕ → Stack → State
-  Has : Written → Stack → State
+  Wants : Stack → ReaderState
+  Bare : List ℕ → Stack → ReaderState
+  Has : Written → Stack → ReaderState
   -- a definition's variable, and `=` behind it
-  Defining : Head → Written → List Definition → State
-  Equating : Head → Written → List Definition → List ℕ → State
-  Whole : Script → State
+  Defining : Head → Written → List Definition → ReaderState
+  Equating : Head → Written → List Definition → List ℕ → ReaderState
+  Whole : Script → ReaderState
 
 -- a row of arguments and those before it
-abbrev pub joined : List Written → Writtens → Writtens
-joined [] terms = terms
-joined (t ∷ front) terms = more t (joined front terms)
+abbrev pub row_with : List Written → Writtens → Writtens
+row_with [] terms = terms
+row_with (t ∷ front) terms = more t (row_with front terms)
 
 -- a command was read to its end
-abbrev pub ended : Head → Written → List Definition → State
+abbrev pub ended : Head → Written → List Definition → ReaderState
 ended h t definitions = Commands h.session (h.puts ++ record { name = h.name; tree = record { term = t; definitions = definitions } } ∷ [])
 
 -- the definitions and one more
@@ -63,9 +63,9 @@ abbrev pub is_put : List ℕ → Bool
 is_put text = bytes_eq text (codes "put")
 
 -- what comes behind a TERM
-unfoldable pub closes : Token → Written → Stack → Option State
+unfoldable pub closes : Token → Written → Stack → Option ReaderState
 closes token.Comma t (InRow f front k) = if nat_lt (length front) 15 then Some (Wants (InRow f (front ++ t ∷ []) k)) else None
-closes token.Close t (InRow f front k) = Some (Has (Applied f (joined front (more t none))) k)
+closes token.Close t (InRow f front k) = Some (Has (Applied f (row_with front (more t none))) k)
 closes token.Where t (InTree h) = Some (Defining h t [])
 closes token.Semicolon t (InTree h) = Some (ended h t [])
 closes token.Comma t (InDefinition h whole ds x) = if may_define ds x t then Some (Defining h whole (with_definition ds x t)) else None
@@ -73,7 +73,7 @@ closes token.Semicolon t (InDefinition h whole ds x) = if may_define ds x t then
 closes _ _ _ = None
 
 -- where the grammar goes with a token
-unfoldable pub step : Token → State → Option State
+unfoldable pub step : Token → ReaderState → Option ReaderState
 step token.Rules Starts = Some Ruled
 step token.Ends Ruled = Some (Whole (record { session = None; puts = [] }))
 step token.Session Ruled = Some Named
@@ -91,7 +91,7 @@ step token.Equals (Equating h t ds x) = Some (Wants (InDefinition h t ds x))
 step _ _ = None
 
 -- what a text that is read to its end says
-unfoldable pub run : List Token → State → Option Script
+unfoldable pub run : List Token → ReaderState → Option Script
 run [] (Whole script) = Some script
 run [] _ = None
 run (token ∷ rest) state = option_and_then (λ next. run rest next) (step token state)

@@ -9,13 +9,13 @@ use Rattle.mars_read.specs.declared.refusal.Refusal.TheVariants as refusal
 use Rattle.mars_read.specs.declared.first.First.{First}
 use Rattle.mars_read.specs.declared.first.FirstPut.{FirstPut}
 use Rattle.mars_read.specs.declared.token.Kind.{Kind}
-use Rattle.mars_read.specs.Seen.{named}
+use Rattle.mars_read.specs.Seen.{token_named}
 use Rattle.mars_read.specs.Token.{Token}
 use Rattle.mars_read.specs.Token as token
-use Rattle.mars_read.specs.Written.{Written, Applied, Writtens, Definition, Put, Script, names_in, names_in_all, names_of_definitions, names_of_tree, names_of_puts}
-use Rattle.mars_read.specs.Grammar.{IsTerm, IsDefinition, AreDefinitions, IsTree, IsPut, ArePuts, IsScript, AreNew, is_among}
+use Rattle.mars_read.specs.Written.{Written, Applied, Writtens, Definition, WrittenPut, Script, names_in, names_in_all, names_of_definitions, names_of_tree, names_of_puts}
+use Rattle.mars_read.specs.Grammar.{IsTerm, IsDefinition, AreDefinitions, IsTreeForm, IsPut, ArePuts, IsScript, DefinesOnce, is_among}
 use Rattle.mars_read.specs.Machine.{Head, Stack, InDefinition, InRow, Wants, Bare, Has, Defining, run}
-use Rattle.mars_read.specs.Built.{Built, Stands, Defines, IsBuilt, with_node}
+use Rattle.mars_read.specs.Built.{Built, Stands, Defines, IsBuilt, built_with_node}
 use Rattle.mars_read.specs.First.{known_all, IsNameOf, IsPutOf, IsFirstOf, nodes_in}
 
 -- the fact holds at a refusal of the form; want of memory says nothing
@@ -25,7 +25,7 @@ OnForm refusal.NoMemory P = Unit {0}
 
 -- a sign or a reserved identifier: a token without a spelling
 abbrev pub IsBare : Kind → Type 0
-IsBare kind = (text : List ℕ) → named kind text ≡ named kind []
+IsBare kind = (text : List ℕ) → token_named kind text ≡ token_named kind []
 
 -- this token doesn't come next
 abbrev pub IsNotNext : Token → List Token → Type 0
@@ -41,8 +41,8 @@ abbrev pub IsNoVariable : List Token → Type 0
 IsNoVariable tokens = (text : List ℕ) (rest : List Token) → tokens ≡ token.Variable text ∷ rest → ⊥
 
 -- something is left
-abbrev pub IsLeft : List Token → Type 0
-IsLeft tokens = tokens ≡ [] → ⊥
+abbrev pub HasMore : List Token → Type 0
+HasMore tokens = tokens ≡ [] → ⊥
 
 -- what a reader has in front of it: the tokens that are left, the names, and the nodes of the tree
 pub record View : Type 0 where
@@ -108,7 +108,7 @@ pub record ReadsRow (f : List ℕ) (old new : View) (node : ℕ) : Type 0 where
 pub record ClosesRow (name : NameId) (kids : List ℕ) (old new : List Token) (built more : Built) (node : ℕ) : Type 0 where
   pub closed : old ≡ token.Close ∷ new
   pub node_is : node ≡ length built.nodes
-  pub more_is : more ≡ with_node built (labelled (label.Name name (length kids)) kids)
+  pub more_is : more ≡ built_with_node built (labelled (label.Name name (length kids)) kids)
   pub was : IsBuilt built
 
 -- a DEF was read: behind any definitions it is one more, if its variable is new
@@ -129,7 +129,7 @@ pub record ReadsDefinitions (old new : View) : Type 0 where
   pub front : List Token
   pub split : old.tokens ≡ front ++ (token.Semicolon ∷ new.tokens)
   pub are : AreDefinitions front written
-  pub apart : AreNew [] written
+  pub apart : DefinesOnce [] written
   pub names_are : new.names ≡ known_all (names_of_definitions written) old.names
   pub stands : (n : ℕ) (t : Written) → Stands old.names old.built n t → Stands new.names new.built n t
   pub defines : Defines new.names new.built written
@@ -140,7 +140,7 @@ pub record ReadsRest (old new : View) : Type 0 where
   pub written : List Definition
   pub front : List Token
   pub split : old.tokens ≡ front ++ (token.Semicolon ∷ new.tokens)
-  pub is : (ts : List Token) (t : Written) → IsTerm ts t → IsTree (ts ++ front) (record { term = t; definitions = written })
+  pub is : (ts : List Token) (t : Written) → IsTerm ts t → IsTreeForm (ts ++ front) (record { term = t; definitions = written })
   pub names_are : new.names ≡ known_all (names_of_definitions written) old.names
   pub stands : (n : ℕ) (t : Written) → Stands old.names old.built n t → Stands new.names new.built n t
   pub defines : Defines new.names new.built written
@@ -162,7 +162,7 @@ HasRoom p = length p.known + length p.rest ≤ length p.names + length p.tokens
 
 -- a command was read, behind its word
 pub record ReadsPut (p : Places) (put : FirstPut) : Type 0 where
-  pub written : Put
+  pub written : WrittenPut
   pub front : List Token
   pub split : p.tokens ≡ front ++ p.rest
   pub is : IsPut (token.Name (codes "put") ∷ front) written
@@ -173,7 +173,7 @@ pub record ReadsPut (p : Places) (put : FirstPut) : Type 0 where
 
 -- commands were read
 pub record ReadsPuts (p : Places) (puts : List FirstPut) : Type 0 where
-  pub written : List Put
+  pub written : List WrittenPut
   pub front : List Token
   pub split : p.tokens ≡ front ++ p.rest
   pub are : ArePuts front written

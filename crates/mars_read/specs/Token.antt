@@ -44,8 +44,8 @@ abbrev pub spelled : List ℕ → Token
 spelled text = if is_identifier text then Name text else (if is_variable text then Variable text else Odd text)
 
 -- the token that a word is; four identifiers are reserved
-abbrev pub word_of : List ℕ → Token
-word_of text =
+abbrev pub word_token : List ℕ → Token
+word_token text =
     if bytes_eq text (codes "rules") then Rules else
     (if bytes_eq text (codes "session") then Session else
     (if bytes_eq text (codes "end") then Ends else
@@ -64,4 +64,4 @@ sign_of (b ∷ bytes) =
 -- the token that a text is: what begins with a letter is a word
 abbrev pub token_of : List ℕ → Token
 token_of [] = Odd []
-token_of (b ∷ bytes) = if is_letter b then word_of (b ∷ bytes) else sign_of (b ∷ bytes)
+token_of (b ∷ bytes) = if is_letter b then word_token (b ∷ bytes) else sign_of (b ∷ bytes)

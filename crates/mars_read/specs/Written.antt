@@ -13,9 +13,9 @@ mutual
     more : Written → Writtens → Writtens
 
 -- how many arguments there are
-abbrev pub count : Writtens → ℕ
-count none = 0
-count (more t terms) = count terms + 1
+abbrev pub argument_count : Writtens → ℕ
+argument_count none = 0
+argument_count (more t terms) = argument_count terms + 1
 
 -- a variable, and the term that it stands for
 pub record Definition : Type 0 where
@@ -23,19 +23,19 @@ pub record Definition : Type 0 where
   pub term : Written
 
 -- a term, and the definitions of its variables
-pub record Tree : Type 0 where
+pub record WrittenTree : Type 0 where
   pub term : Written
   pub definitions : List Definition
 
 -- one command: the name that it gives, and the tree
-pub record Put : Type 0 where
+pub record WrittenPut : Type 0 where
   pub name : List ℕ
-  pub tree : Tree
+  pub tree : WrittenTree
 
 -- a whole text: the session's name, where there is a session, and its commands
 pub record Script : Type 0 where
   pub session : Option (List ℕ)
-  pub puts : List Put
+  pub puts : List WrittenPut
 
 -- the names of a term, in the order of the text
 abbrev mutual
@@ -53,11 +53,11 @@ names_of_definitions [] = []
 names_of_definitions (d ∷ definitions) = names_in d.term ++ names_of_definitions definitions
 
 -- the names of a tree
-abbrev pub names_of_tree : Tree → List (List ℕ)
+abbrev pub names_of_tree : WrittenTree → List (List ℕ)
 names_of_tree tree = names_in tree.term ++ names_of_definitions tree.definitions
 
 -- the names of commands
-abbrev pub names_of_puts : List Put → List (List ℕ)
+abbrev pub names_of_puts : List WrittenPut → List (List ℕ)
 names_of_puts [] = []
 names_of_puts (put ∷ puts) = (put.name ∷ names_of_tree put.tree) ++ names_of_puts puts
 
@@ -67,5 +67,5 @@ names_of_session None = []
 names_of_session (Some name) = name ∷ []
 
 -- all names of a text
-abbrev pub names_of : Script → List (List ℕ)
-names_of script = names_of_session script.session ++ names_of_puts script.puts
+abbrev pub names_in_script : Script → List (List ℕ)
+names_in_script script = names_of_session script.session ++ names_of_puts script.puts

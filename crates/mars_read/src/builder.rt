@@ -3,9 +3,9 @@
 ghost use Rattle.std.specs.Prelude.{◌≡◌, ◌≢◌, ◌<◌, List, ℕ, None, Some, length, not, IfOk, OnOk, OnErr, IfSome, MatchBool, All};
 ghost use Rattle.mars_tree.specs.Label.{arity_of};
 ghost use Rattle.mars_tree.specs.Graph.{labelled, label_of};
-ghost use Rattle.mars_read.specs.Built.{nothing, IsBuilt, leaf_of, target_of, with_node, with_variable, AddsDefinition, is_defined, graph_of, Stands, Defines};
+ghost use Rattle.mars_read.specs.Built.{empty_built, IsBuilt, leaf_of, gives_way_to, built_with_node, with_variable, AddsDefinition, is_defined, graph_of, Stands, Defines};
 ghost use Rattle.mars_read.specs.Meaning.{IsTreeOf};
-ghost use Rattle.mars_read.specs.Written.{Tree};
+ghost use Rattle.mars_read.specs.Written.{WrittenTree};
 
 use crate::redirect::{redirect, set_kids};
 use indexmap::IndexMap;
@@ -38,7 +38,7 @@ impl Model for TreeBuilder {
 impl TreeBuilder {
     /// No nodes, no variables.
     pub(crate) fn new(alloc: Global) -> TreeBuilder
-        ensures { result ≡ nothing }
+        ensures { result ≡ empty_built }
     {
         TreeBuilder {
             alloc,
@@ -93,7 +93,7 @@ impl TreeBuilder {
         requires arity { length kids.now ≡ arity_of label }
         requires kids_in { All (λ kid. kid < length self.old.nodes) kids.now }
         ensures node { IfOk result (λ n. n ≡ length self.old.nodes) }
-        ensures ok { OnOk result (self.new ≡ with_node self.old (labelled label kids.now)) }
+        ensures ok { OnOk result (self.new ≡ built_with_node self.old (labelled label kids.now)) }
         ensures err { OnErr result (self.new ≡ self.old) }
         ensures built { IsBuilt self.old }
     {
@@ -126,9 +126,9 @@ impl TreeBuilder {
     pub(crate) fn finish(self, root: usize) -> (Graph, usize)
         requires { root < length self.nodes }
         ensures graph { result.0 ≡ graph_of self }
-        ensures root { result.1 ≡ target_of self root }
+        ensures root { result.1 ≡ gives_way_to self root }
         ensures root_in { result.1 < length result.0 }
-        ensures tree { (names : List (List ℕ)) (tree : Tree) → Stands names self root tree.term → Defines names self tree.definitions → IsTreeOf names tree result.0 result.1 }
+        ensures tree { (names : List (List ℕ)) (tree : WrittenTree) → Stands names self root tree.term → Defines names self tree.definitions → IsTreeOf names tree result.0 result.1 }
     {
         let TreeBuilder {
             alloc: _,

@@ -1,9 +1,9 @@
 //! The tokens that are left to read, seen with their spellings.
 ghost use Rattle.std.specs.Prelude.{◌≡◌, List, [], ◌∷◌, All, IfOk, IfErr, OnOk, IfSome, IfNone};
 ghost use Rattle.std.specs.Bool.{OnTrue, OnFalse};
-ghost use Rattle.mars_read.specs.Seen.{named, all_seen, IsWithin};
+ghost use Rattle.mars_read.specs.Seen.{token_named, all_seen, LiesWithin};
 ghost use Rattle.mars_read.specs.Token.{Name, Variable};
-ghost use Rattle.mars_read.specs.Reading.{OnForm, IsNotNext, IsNoName, IsNoVariable, IsBare, IsLeft};
+ghost use Rattle.mars_read.specs.Reading.{OnForm, IsNotNext, IsNoName, IsNoVariable, IsBare, HasMore};
 
 use crate::refusal::Refusal;
 use crate::token::{Kind, Token, text_of};
@@ -19,19 +19,19 @@ pub(crate) struct Cursor<'a> {
 impl<'a> Model for Cursor<'a> {
     ghost use Rattle.std.specs.Prelude.{List, All};
     ghost use Rattle.mars_read.specs.Token.{Token};
-    ghost use Rattle.mars_read.specs.Seen.{all_seen, IsWithin};
+    ghost use Rattle.mars_read.specs.Seen.{all_seen, LiesWithin};
 
     ghost Value = { List Token };
 
     ghost view = { λ cursor. all_seen cursor.bytes.now cursor.tokens.now };
 
-    ghost invariant = { λ cursor. All (IsWithin cursor.bytes.now) cursor.tokens.now };
+    ghost invariant = { λ cursor. All (LiesWithin cursor.bytes.now) cursor.tokens.now };
 }
 
 impl<'a> Cursor<'a> {
     /// In front of all tokens.
     pub(crate) fn new(bytes: &'a [u8], tokens: &'a [Token]) -> Cursor<'a>
-        requires { All (IsWithin bytes.now) tokens.now }
+        requires { All (LiesWithin bytes.now) tokens.now }
         ensures { result ≡ all_seen bytes.now tokens.now }
     {
         Cursor { bytes, tokens }
@@ -39,7 +39,7 @@ impl<'a> Cursor<'a> {
 
     /// Takes the next token, if there is one: its kind and its spelling.
     pub(crate) fn next(&mut self) -> Option<(Kind, &'a [u8])>
-        ensures some { IfSome result (λ r. self.old ≡ named r.0 r.1.now ∷ self.new) }
+        ensures some { IfSome result (λ r. self.old ≡ token_named r.0 r.1.now ∷ self.new) }
         ensures none { IfNone result (self.old ≡ []) }
     {
         match self.tokens.split_first() {
@@ -54,9 +54,9 @@ impl<'a> Cursor<'a> {
     /// Takes the next token if it is this sign or reserved identifier.
     pub(crate) fn takes(&mut self, sign: Kind) -> bool
         requires { IsBare sign }
-        ensures taken { OnTrue result (self.old ≡ named sign [] ∷ self.new) }
+        ensures taken { OnTrue result (self.old ≡ token_named sign [] ∷ self.new) }
         ensures left { OnFalse result (self.new ≡ self.old) }
-        ensures apart { OnFalse result (IsNotNext (named sign []) self.old) }
+        ensures apart { OnFalse result (IsNotNext (token_named sign []) self.old) }
     {
         match self.tokens.split_first() {
             Some((next, rest)) => {
@@ -73,8 +73,8 @@ impl<'a> Cursor<'a> {
     /// Takes this sign or reserved identifier.
     pub(crate) fn expect(&mut self, sign: Kind) -> Result<(), Refusal>
         requires { IsBare sign }
-        ensures taken { OnOk result (self.old ≡ named sign [] ∷ self.new) }
-        ensures refused { IfErr result (λ e. OnForm e (IsNotNext (named sign []) self.old)) }
+        ensures taken { OnOk result (self.old ≡ token_named sign [] ∷ self.new) }
+        ensures refused { IfErr result (λ e. OnForm e (IsNotNext (token_named sign []) self.old)) }
     {
         if self.takes(sign) {
             Ok(())
@@ -123,7 +123,7 @@ impl<'a> Cursor<'a> {
     /// Nothing is left.
     pub(crate) fn finish(&self) -> Result<(), Refusal>
         ensures done { OnOk result (self.now ≡ []) }
-        ensures refused { IfErr result (λ e. OnForm e (IsLeft self.now)) }
+        ensures refused { IfErr result (λ e. OnForm e (HasMore self.now)) }
     {
         if self.tokens.is_empty() {
             Ok(())

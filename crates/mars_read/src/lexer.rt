@@ -2,9 +2,9 @@
 ghost use Rattle.std.specs.Prelude.{◌≡◌, ℕ, ◌<◌, ◌≤◌, ◌^◌, List, ◌++◌, length, take, drop, All, IfOk, IfSome, IfNone};
 ghost use Rattle.std.specs.List.{prefix_len};
 ghost use Rattle.mars_read.specs.Bytes.{is_tail, is_blank};
-ghost use Rattle.mars_read.specs.Lexed.{IsLongest, BeginsNone, HasNoToken, IsShort, IsLexed, IsNotLexed, opened, OneTokenList};
+ghost use Rattle.mars_read.specs.Lexed.{IsLongest, BeginsNone, HasNoToken, IsShort, IsLexed, IsNotLexed, open_after, OneTokenList};
 ghost use Rattle.mars_read.specs.Token.{token_of};
-ghost use Rattle.mars_read.specs.Seen.{named, text_at, seen, all_seen, IsWithin};
+ghost use Rattle.mars_read.specs.Seen.{token_named, text_at, seen, all_seen, LiesWithin};
 
 use crate::bytes::{is_blank, is_letter, is_sign, is_tail};
 use crate::token::{Kind, Token, kind_of};
@@ -59,9 +59,9 @@ fn from_place(bytes: &[u8], at: usize) -> &[u8]
 }
 
 /// How many brackets are open behind a token, where `depth` are in front of it.
-fn opened(depth: u32, kind: Kind) -> u32
+fn open_after(depth: u32, kind: Kind) -> u32
     requires { depth ≤ 200 }
-    ensures opened { (text : List ℕ) → result ≡ opened depth (named kind text) }
+    ensures open_after { (text : List ℕ) → result ≡ open_after depth (token_named kind text) }
     ensures within { result ≤ 201 }
 {
     match kind {
@@ -76,7 +76,7 @@ fn next_token(bytes: &[u8], start: usize) -> Option<Token>
     requires size { length bytes.now < 2 ^ 32 }
     requires start_in { start ≤ length bytes.now }
     ensures place { IfSome result (λ t. (t.start ≡ start) × (start < t.end)) }
-    ensures within { IfSome result (IsWithin bytes.now) }
+    ensures within { IfSome result (LiesWithin bytes.now) }
     ensures token { IfSome result (λ t. seen bytes.now t ≡ token_of (text_at bytes.now t)) }
     ensures longest { IfSome result (λ t. IsLongest (text_at bytes.now t) (drop t.end bytes.now)) }
     ensures short { IfSome result (λ t. IsShort (seen bytes.now t)) }
@@ -101,7 +101,7 @@ fn next_token(bytes: &[u8], start: usize) -> Option<Token>
 pub(crate) fn lex(alloc: Global, bytes: &[u8]) -> Result<Option<Vec<Token>>, NoMemory>
     requires { length bytes.now < 2 ^ 32 }
     ensures some { IfOk result (λ r. IfSome r (λ tokens. IsLexed bytes.now (all_seen bytes.now tokens.items))) }
-    ensures within { IfOk result (λ r. IfSome r (λ tokens. All (IsWithin bytes.now) tokens.items)) }
+    ensures within { IfOk result (λ r. IfSome r (λ tokens. All (LiesWithin bytes.now) tokens.items)) }
     ensures none { IfOk result (λ r. IfNone r (IsNotLexed bytes.now)) }
 {
     let mut tokens = Vec::new(alloc);
@@ -115,7 +115,7 @@ pub(crate) fn lex(alloc: Global, bytes: &[u8]) -> Result<Option<Vec<Token>>, NoM
         let Some(token) = next_token(bytes, start) else {
             return Ok(None);
         };
-        depth = opened(depth, token.kind);
+        depth = open_after(depth, token.kind);
         if depth > DEEPEST {
             return Ok(None);
         }

@@ -1,6 +1,6 @@
 //! The reader of the first form: from left to right, one token ahead.
 ghost use Rattle.std.specs.Prelude.{◌≡◌, ℕ, List, ◌+◌, ◌-◌, ◌^◌, ◌<◌, ◌≤◌, [], ◌∷◌, length, Some, None, IfOk, IfErr, IfSome, IfNone};
-ghost use Rattle.mars_read.specs.Written.{Put};
+ghost use Rattle.mars_read.specs.Written.{WrittenPut};
 ghost use Rattle.mars_read.specs.Token.{Token, Name, Ends};
 ghost use Rattle.mars_read.specs.First.{IsReadFrom, IsNoFirstForm, OneScript, nodes_in};
 ghost use Rattle.mars_read.specs.Machine.{Starts, Ruled, Commands, Puts, run};
@@ -30,7 +30,7 @@ fn read_put(alloc: Global, tokens: &mut Cursor, names: &mut Names) -> Result<Fir
     ensures read { IfOk result
         (λ put. ReadsPut (between tokens.old tokens.new names.old names.new) put) }
     ensures refused { IfErr result
-        (λ e. OnForm e ((s : List ℕ) (ps : List Put) → run tokens.old (Puts s ps) ≡ None)) }
+        (λ e. OnForm e ((s : List ℕ) (ps : List WrittenPut) → run tokens.old (Puts s ps) ≡ None)) }
 {
     let text = tokens.name()?;
     let name = names.id(text)?;

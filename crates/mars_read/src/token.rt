@@ -1,7 +1,7 @@
 //! Tokens of the first form by their kinds and places, and the kind of a text.
 ghost use Rattle.std.specs.Prelude.{◌≡◌, ℕ, List, ◌∷◌};
-ghost use Rattle.mars_read.specs.Token.{are_digits_and_primes, is_variable, is_identifier, spelled, word_of, sign_of, token_of};
-ghost use Rattle.mars_read.specs.Seen.{named, text_at, IsWithin};
+ghost use Rattle.mars_read.specs.Token.{are_digits_and_primes, is_variable, is_identifier, spelled, word_token, sign_of, token_of};
+ghost use Rattle.mars_read.specs.Seen.{token_named, text_at, LiesWithin};
 
 use crate::bytes::{is_digit, is_letter};
 
@@ -36,7 +36,7 @@ pub(crate) struct Token {
 
 /// A token's bytes.
 pub(crate) fn text_of(bytes: &[u8], token: Token) -> &[u8]
-    requires { IsWithin bytes.now token }
+    requires { LiesWithin bytes.now token }
     ensures { result.now ≡ text_at bytes.now token }
 {
     &bytes[token.start as usize..token.end as usize]
@@ -74,7 +74,7 @@ fn is_identifier(text: &[u8]) -> bool
 
 /// The kind of a word that isn't reserved.
 fn kind_of_spelled(text: &[u8]) -> Kind
-    ensures { named result text.now ≡ spelled text.now }
+    ensures { token_named result text.now ≡ spelled text.now }
 {
     if is_identifier(text) {
         Kind::Name
@@ -87,7 +87,7 @@ fn kind_of_spelled(text: &[u8]) -> Kind
 
 /// The kind of a word.
 fn kind_of_word(text: &[u8]) -> Kind
-    ensures { named result text.now ≡ word_of text.now }
+    ensures { token_named result text.now ≡ word_token text.now }
 {
     if text == b"rules".as_slice() {
         Kind::Rules
@@ -104,7 +104,7 @@ fn kind_of_word(text: &[u8]) -> Kind
 
 /// The kind of a sign.
 fn kind_of_sign(b: u8) -> Kind
-    ensures { (rest : List ℕ) → named result (b ∷ rest) ≡ sign_of (b ∷ rest) }
+    ensures { (rest : List ℕ) → token_named result (b ∷ rest) ≡ sign_of (b ∷ rest) }
 {
     match b {
         b'(' => Kind::Open,
@@ -118,7 +118,7 @@ fn kind_of_sign(b: u8) -> Kind
 
 /// The kind of the token that a text is.
 pub(crate) fn kind_of(text: &[u8]) -> Kind
-    ensures { named result text.now ≡ token_of text.now }
+    ensures { token_named result text.now ≡ token_of text.now }
 {
     match text.split_first() {
         Some((first, _)) => if is_letter(*first) {

@@ -8,27 +8,27 @@ use Rattle.std.proofs.lemmas.List.Folds.{position_or_len_push}
 use Rattle.std.proofs.lemmas.Bool.{cases_lt}
 use Rattle.mars_tree.specs.declared.label.Label.{Label}
 use Rattle.mars_tree.specs.Graph.{Node, stands, label_of}
-use Rattle.mars_refine.specs.declared.marks.Shown.{Shown}
+use Rattle.mars_refine.specs.declared.marks.NodeLabel.{NodeLabel}
 use Rattle.mars_refine.specs.Marks.{AreNumbers, shown_of, shown_from}
 use Rattle.mars_refine.proofs.Writing.{true_or_false}
 use Rattle.mars_refine.proofs.Linking.{push_cases}
 
 -- the numbers of the nodes below `node` are the places of what they show
-pub record IsNumbered (E : Shown → Shown → Bool) (g : List Node) (node : ℕ) (keys : List Shown) (numbers : List ℕ) : Type 0 where
+pub record IsNumbered (E : NodeLabel → NodeLabel → Bool) (g : List Node) (node : ℕ) (keys : List NodeLabel) (numbers : List ℕ) : Type 0 where
   pub size : length numbers ≡ node
   pub few : length keys ≤ node
   pub within : (u : ℕ) → u < node → get_or numbers u 0 < length keys
   pub places : (u : ℕ) → u < node → get_or numbers u 0 ≡ position_or_len (E (shown_of g u)) keys
 
 -- a place that is found stays
-place_stays : (p : Shown → Bool) (keys : List Shown) (k : Shown) → position_or_len p keys < length keys → position_or_len p (keys ++ k ∷ []) ≡ position_or_len p keys
+place_stays : (p : NodeLabel → Bool) (keys : List NodeLabel) (k : NodeLabel) → position_or_len p keys < length keys → position_or_len p (keys ++ k ∷ []) ≡ position_or_len p keys
 place_stays p keys k h = grind (arith, position_or_len_push)
 
 -- where it isn't found its place is the end
-place_at_end : (p : Shown → Bool) (keys : List Shown) (k : Shown) → length keys ≤ position_or_len p keys → p k ≡ true → position_or_len p (keys ++ k ∷ []) ≡ position_or_len p keys
+place_at_end : (p : NodeLabel → Bool) (keys : List NodeLabel) (k : NodeLabel) → length keys ≤ position_or_len p keys → p k ≡ true → position_or_len p (keys ++ k ∷ []) ≡ position_or_len p keys
 place_at_end p keys k h t = grind (arith, position_or_len_push)
 
-pub numbered_more : (E : Shown → Shown → Bool) → ((a : Shown) → E a a ≡ true) → (g : List Node) (node : ℕ) (keys keys' : List Shown) (numbers numbers' : List ℕ) (s : Shown) (number : ℕ) → IsNumbered E g node keys numbers → s ≡ shown_of g node →
+pub numbered_more : (E : NodeLabel → NodeLabel → Bool) → ((a : NodeLabel) → E a a ≡ true) → (g : List Node) (node : ℕ) (keys keys' : List NodeLabel) (numbers numbers' : List ℕ) (s : NodeLabel) (number : ℕ) → IsNumbered E g node keys numbers → s ≡ shown_of g node →
     number ≡ position_or_len (E s) keys → keys' ≡ (if list_any (E s) keys then keys else keys ++ s ∷ []) → number < length keys' → numbers' ≡ numbers ++ number ∷ [] → IsNumbered E g (node + 1) keys' numbers'
 numbered_more E own g node keys keys' numbers numbers' s number is s_is number_is keys_is within numbers_is =
     let grown : ((keys' ≡ keys) ⊎ (keys' ≡ keys ++ s ∷ [])) = elim (true_or_false (list_any (E s) keys)) [
@@ -37,7 +37,7 @@ numbered_more E own g node keys keys' numbers numbers' s number is s_is number_i
     ] in
     let longer : length keys ≤ length keys' = elim grown [ inl e ↦ omega (arith, ap length e) | inr e ↦ omega (arith, ap length e, length_push keys s) ] in
     let few : length keys' ≤ node + 1 = elim grown [ inl e ↦ omega (arith, ap length e, is.few) | inr e ↦ omega (arith, ap length e, length_push keys s, is.few) ] in
-    let stays : (p : Shown → Bool) → position_or_len p keys < length keys → position_or_len p keys' ≡ position_or_len p keys = λ p h. elim grown [ inl e ↦ ap (position_or_len p) e | inr e ↦ ap (position_or_len p) e ∙ place_stays p keys s h ] in
+    let stays : (p : NodeLabel → Bool) → position_or_len p keys < length keys → position_or_len p keys' ≡ position_or_len p keys = λ p h. elim grown [ inl e ↦ ap (position_or_len p) e | inr e ↦ ap (position_or_len p) e ∙ place_stays p keys s h ] in
     let new : position_or_len (E s) keys' ≡ position_or_len (E s) keys = elim grown [
       | inl e ↦ ap (position_or_len (E s)) e
       | inr e ↦ ap (position_or_len (E s)) e ∙ elim (cases_lt (position_or_len (E s) keys) (length keys)) [
@@ -69,7 +69,7 @@ marks_same None None u v = (λ e. cc, λ e. cc)
 marks_same (Some a) None u v = (λ e. cc, λ e. cc)
 marks_same None (Some b) u v = (λ e. cc, λ e. cc)
 
-pub numbered_done : (E : Shown → Shown → Bool) → ((a b : Shown) → E a b ≡ true → a ≡ b) → (g : List Node) (node : ℕ) (keys : List Shown) (numbers : List ℕ) → IsNumbered E g node keys numbers → node ≡ length g → AreNumbers g numbers
+pub numbered_done : (E : NodeLabel → NodeLabel → Bool) → ((a b : NodeLabel) → E a b ≡ true → a ≡ b) → (g : List Node) (node : ℕ) (keys : List NodeLabel) (numbers : List ℕ) → IsNumbered E g node keys numbers → node ≡ length g → AreNumbers g numbers
 numbered_done E same g node keys numbers is end = record {
   size = is.size ∙ end;
   below = λ u h. omega (arith, is.within u (omega (arith, end)), is.few, end);

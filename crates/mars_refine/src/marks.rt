@@ -15,19 +15,19 @@ use std::alloc::Global;
 
 /// What is shown at a node: a label, or a free leaf by its number.
 #[derive(Clone, Copy, Debug, PartialEq, Eq, Hash)]
-pub enum Shown {
+pub enum NodeLabel {
     Label(Label),
     Free(usize),
 }
 
 /// What is shown at a node of a graph.
-fn shown_at(graph: &Graph, node: usize) -> Shown
+fn shown_at(graph: &Graph, node: usize) -> NodeLabel
     requires { node < length graph.now }
     ensures { result ≡ shown_of graph.now node }
 {
     match graph.label(node) {
-        Some(label) => Shown::Label(label),
-        None => Shown::Free(node),
+        Some(label) => NodeLabel::Label(label),
+        None => NodeLabel::Free(node),
     }
 }
 

@@ -10,7 +10,7 @@ use Rattle.mars_store.specs.Valuation.{Valuation, value, IsValuation}
 use Rattle.mars_store.specs.System.{System, IsSystem, resolve}
 use Rattle.mars_store.specs.Solutions.{InSol, over, plain, plain_label, constant, AreNew}
 use Rattle.mars_store.specs.Laws.{IsForced, IsUnforced, IsImplied, new_names}
-use Rattle.mars_store.specs.Shown.{moved, resolved, shown, IsPlace, LabelsShown, LeavesShown, SameShown}
+use Rattle.mars_store.specs.Shown.{resolved_node, resolved, shown, IsPlace, LabelsShown, LeavesShown, SameShown}
 use Rattle.mars_store.proofs.Solving.{cases-label, solution-last, solution-over, last-inside, at-labelled, plain-solves, plain-over, kids-inside, number-of, same-label}
 use Rattle.mars_store.proofs.Plain.{plain_decides, new_names-new}
 
@@ -41,8 +41,8 @@ module _ (system : System) (sound : IsSystem system) where
   abbrev end : ℕ → ℕ
   end n = resolve system.bound n
 
-  resolved-at : (n : ℕ) → n < count → get_or (resolved system) n free_leaf ≡ moved system n
-  resolved-at n h = get_or-map-range_with_len (moved system) 0 count n n free_leaf h (omega arith)
+  resolved-at : (n : ℕ) → n < count → get_or (resolved system) n free_leaf ≡ resolved_node system n
+  resolved-at n h = get_or-map-range_with_len (resolved_node system) 0 count n n free_leaf h (omega arith)
 
   pub end-inside : (n : ℕ) → n < count → end n < count
   end-inside n h = last-inside system sound (λ k. k) n h

@@ -9,12 +9,12 @@ use Rattle.mars_store.specs.Solutions.{InSol}
 use Rattle.mars_store.specs.Laws.{IsForced, IsUnforced, IsImplied}
 
 -- a node over the ends of its kids' links
-abbrev pub moved : System → ℕ → Node
-moved system n = record { label = label_of system.nodes n; kids = map (resolve system.bound) (kids_of system.nodes n) }
+abbrev pub resolved_node : System → ℕ → Node
+resolved_node system n = record { label = label_of system.nodes n; kids = map (resolve system.bound) (kids_of system.nodes n) }
 
 -- the system's graph along its links; its free leaves are the variables that aren't bound
 abbrev pub resolved : System → List Node
-resolved system = map (moved system) (range_with_len 0 (length system.nodes))
+resolved system = map (resolved_node system) (range_with_len 0 (length system.nodes))
 
 -- what stands in that graph at the end of a path from a node
 abbrev pub shown : System → ℕ → List ℕ → Option Shown

@@ -12,10 +12,10 @@ use Rattle.mars_tree.specs.Graph.{Node, IsGraph, IsGround, label_of, kids_of, ar
 use Rattle.mars_tree.proofs.Graphs.{node_in}
 use Rattle.mars_tree.proofs.Paths.{label_from_stands, stands_from_label, label_in, kid_in}
 use Rattle.mars_tree.proofs.Walks.{same_from_bisimulation}
-use Rattle.mars_table.specs.Rows.{Row, row_at, HasRow, kids_of_row, label_of_row, shown_at_row, tree_of, IsTree}
+use Rattle.mars_table.specs.Rows.{Row, row_at, HasRow, kids_of_row, label_of_row, shown_at_row, tree_of, IsRowOf}
 use Rattle.mars_table.specs.Finding.{find_row}
 use Rattle.mars_table.specs.Object.{fresh_before, number_of, fresh_row, fresh_rows}
-use Rattle.mars_table.specs.Sound.{IsClosed, IsApart}
+use Rattle.mars_table.specs.Sound.{AreClosed, IsApart}
 use Rattle.mars_table.specs.TableLaws.{InternMeans}
 use Rattle.mars_table.proofs.RowFacts.{some_of, chosen, number_at, kid_is_row}
 use Rattle.mars_table.proofs.Found.{find_means, option_map_some, counted}
@@ -92,7 +92,7 @@ all_from_range P f from (suc count) each =
           (All-cons P some.0 (filter_map f (range_with_len (from + 1) count)) (each from some.0 (omega arith) some.1) rest)
     ]
 
-module _ (rows : List Row) (next : ℕ) (g : List Node) (closed : IsClosed rows) (apart : IsApart rows) (below : All (λ row. row.number < next) rows)
+module _ (rows : List Row) (next : ℕ) (g : List Node) (closed : AreClosed rows) (apart : IsApart rows) (below : All (λ row. row.number < next) rows)
     (g_is : IsGraph g) (ground : IsGround g) (distinct : (i j : ℕ) → i < length g → j < length g → Same g i g j → i ≡ j) where
   -- node `n` as a row
   abbrev as_row : ℕ → Label → Row
@@ -184,7 +184,7 @@ module _ (rows : List Row) (next : ℕ) (g : List Node) (closed : IsClosed rows)
       }) h h (has, refl)
 
   -- the number of a node that is found, and its label and kids there
-  found_is : (n h : ℕ) → n < length g → find_row rows g n ≡ Some h → HasRow rows h × IsTree rows h g n
+  found_is : (n h : ℕ) → n < length g → find_row rows g n ≡ Some h → HasRow rows h × IsRowOf rows h g n
   found_is n h n_in e = (find_means rows g n h closed apart g_is ground n_in).0 e
 
   found_kids : (n h : ℕ) → n < length g → find_row rows g n ≡ Some h → (label_of_row rows h ≡ label_of g n) × (kids_of_row rows h ≡ map (number_of rows next g) (kids_of g n))
@@ -196,7 +196,7 @@ module _ (rows : List Row) (next : ℕ) (g : List Node) (closed : IsClosed rows)
             (λ k x z left right.
             let y = map_get (number_of rows next g) (kids_of g n) k z right in
             let y_in : y.0 < length g = kid_in g n k y.0 g_is n_in y.1 in
-            let tree : IsTree rows x g y.0 = λ path.
+            let tree : IsRowOf rows x g y.0 = λ path.
             let a : tree_of rows h (k ∷ path) ≡ tree_of rows x path = rw left refl in
             let b : at g n (k ∷ path) ≡ at g y.0 path = rw y.1 refl in
             sym a ∙ is.1 (k ∷ path) ∙ b in
@@ -220,7 +220,7 @@ module _ (rows : List Row) (next : ℕ) (g : List Node) (closed : IsClosed rows)
   ]
 
   -- the tree of its number is that of the node
-  number_tree : (n : ℕ) → n < length g → IsTree (rows ++ fresh_rows rows next g) (number_of rows next g n) g n
+  number_tree : (n : ℕ) → n < length g → IsRowOf (rows ++ fresh_rows rows next g) (number_of rows next g n) g n
   number_tree n n_in =
       same_from_bisimulation (kids_of_row (rows ++ fresh_rows rows next g)) (shown_at_row (rows ++ fresh_rows rows next g)) (kids_of g) (shown_at g)
       (λ i j. (j < length g) × (i ≡ number_of rows next g j)) (record {
@@ -266,7 +266,7 @@ module _ (rows : List Row) (next : ℕ) (g : List Node) (closed : IsClosed rows)
     ]
   ]
     where
-      old_and_new : (h n : ℕ) → HasRow rows h → n < length g → find_row rows g n ≡ None → IsTree rows h g n → ⊥
+      old_and_new : (h n : ℕ) → HasRow rows h → n < length g → find_row rows g n ≡ None → IsRowOf rows h g n → ⊥
       old_and_new h n old n_in none tree = none-some h (sym none ∙ (find_means rows g n h closed apart g_is ground n_in).1 (old, tree))
 
   from_fresh : (n : ℕ) (row : Row) → n < length g → fresh_row rows next g n ≡ Some row → (l : Label) × (label_of g n ≡ Some l) × (as_row n l ≡ row)
@@ -275,7 +275,7 @@ module _ (rows : List Row) (next : ℕ) (g : List Node) (closed : IsClosed rows)
     | inr some ↦ absurd (none-some row (sym (found_no_row n some.0 some.1) ∙ e))
   ]
 
-  new_closed : IsClosed (rows ++ fresh_rows rows next g)
+  new_closed : AreClosed (rows ++ fresh_rows rows next g)
   new_closed = record {
     count = All-append (λ row. length row.kids ≡ arity_of row.label) rows (fresh_rows rows next g) closed.count
         (all_from_range (λ row. length row.kids ≡ arity_of row.label) (fresh_row rows next g) 0 (length g) (λ n row lt e.

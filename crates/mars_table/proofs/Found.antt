@@ -9,9 +9,9 @@ use Rattle.mars_tree.specs.Graph.{Node, IsGraph, IsGround, label_of, kids_of, ar
 use Rattle.mars_tree.proofs.Graphs.{node_in}
 use Rattle.mars_tree.proofs.Paths.{graph_is_finite, label_from_stands, stands_from_label, label_in, kid_in}
 use Rattle.mars_tree.proofs.Walks.{at_both, both_from_length, same_from_short}
-use Rattle.mars_table.specs.Rows.{Row, row_at, HasRow, kids_of_row, label_of_row, shown_at_row, tree_of, IsTree}
+use Rattle.mars_table.specs.Rows.{Row, row_at, HasRow, kids_of_row, label_of_row, shown_at_row, tree_of, IsRowOf}
 use Rattle.mars_table.specs.Finding.{same_label, alike}
-use Rattle.mars_table.specs.Sound.{IsClosed}
+use Rattle.mars_table.specs.Sound.{AreClosed}
 use Rattle.mars_table.specs.TableLaws.{FindMeans}
 use Rattle.mars_table.proofs.RowFacts.{same_label_is, same_label_from, some_of, find_passes, find_again, number_at, kid_is_row, rows_are_finite, row_kids, place}
 
@@ -32,7 +32,7 @@ all_zip_from f [] ys each = refl
 all_zip_from f (a ∷ xs) [] each = refl
 all_zip_from f (a ∷ xs) (b ∷ ys) each = rw (each 0 a b refl refl) (all_zip_from f xs ys (λ k. each (suc k)))
 
-module _ (rows : List Row) (g : List Node) (closed : IsClosed rows) (g_is : IsGraph g) (ground : IsGround g) where
+module _ (rows : List Row) (g : List Node) (closed : AreClosed rows) (g_is : IsGraph g) (ground : IsGround g) where
   -- what is shown fixes how many kids there are
   pub counted : (h n : ℕ) → HasRow rows h → n < length g → shown_at_row rows h ≡ shown_at g n → length (kids_of_row rows h) ≡ length (kids_of g n)
   counted h n has n_in e =
@@ -68,7 +68,7 @@ module _ (rows : List Row) (g : List Node) (closed : IsClosed rows) (g_is : IsGr
           (both_from_length (λ x y. tree_of rows x path ≡ at g y path) (kids_of_row rows h) (kids_of g n) k (counted h n has n_in shown) (λ x y left right. kids x y k path (omega (arith, lt)) left right))
 
   -- the test at the product of the lengths says that the trees are the same
-  same_decides : (h n : ℕ) → HasRow rows h → n < length g → Decides (alike (length rows * length g) rows h g n) (IsTree rows h g n)
+  same_decides : (h n : ℕ) → HasRow rows h → n < length g → Decides (alike (length rows * length g) rows h g n) (IsRowOf rows h g n)
   same_decides h n has n_in =
       let d = alike_decides (length rows * length g) h n has n_in in (
         λ e. same_from_short (kids_of_row rows) (HasRow rows) (place rows) (length rows) (rows_are_finite rows closed) (kids_of g) (λ n. n < length g) (λ n. n) (length g) (graph_is_finite g g_is) h has n n_in
@@ -86,14 +86,14 @@ find_means rows g n h closed apart g_is ground n_in =
     let has = λ (row : Row) (e : find test rows ≡ Some row).
     let is : HasRow rows row.number = find_again test (λ r. nat_eq r.number row.number) rows row e (eq-eqb row.number row.number refl) in is in
     let tree = λ (row : Row) (e : find test rows ≡ Some row).
-    let is : IsTree rows row.number g n = (same_decides rows g closed g_is ground row.number n (has row e) n_in).0 (find_passes test rows row e) in is in (
+    let is : IsRowOf rows row.number g n = (same_decides rows g closed g_is ground row.number n (has row e) n_in).0 (find_passes test rows row e) in is in (
       λ e.
           let found = option_map_some (λ (row : Row). row.number) (find test rows) h e in
-          (subst (HasRow rows) found.2 (has found.0 found.1), subst (λ (x : ℕ). IsTree rows x g n) found.2 (tree found.0 found.1)),
+          (subst (HasRow rows) found.2 (has found.0 found.1), subst (λ (x : ℕ). IsRowOf rows x g n) found.2 (tree found.0 found.1)),
       λ is.
           let row = some_of (row_at rows h) is.0 in
           let number : row.0.number ≡ h = number_at rows h row.0 row.1 in
-          let passes : test row.0 ≡ true = (same_decides rows g closed g_is ground row.0.number n (subst (HasRow rows) (sym number) is.0) n_in).1 (subst (λ (x : ℕ). IsTree rows x g n) (sym number) is.1) in
+          let passes : test row.0 ≡ true = (same_decides rows g closed g_is ground row.0.number n (subst (HasRow rows) (sym number) is.0) n_in).1 (subst (λ (x : ℕ). IsRowOf rows x g n) (sym number) is.1) in
           let found = some_of (find test rows) (find_again (λ r. nat_eq r.number h) test rows row.0 row.1 passes) in
           let same : found.0.number ≡ h = apart found.0.number h (has found.0 found.1) is.0 (λ path. tree found.0 found.1 path ∙ sym (is.1 path)) in
           ap (option_map (λ (row : Row). row.number)) found.1 ∙ ap (λ x. Some x) same,

@@ -4,8 +4,8 @@ use Rattle.mars_tree.specs.Graph.{Node, IsGraph, IsGround, label_of, shown_at, S
 use Rattle.mars_tree.proofs.Paths.{label_from_stands}
 use Rattle.std.proofs.lemmas.Option.{same_Some}
 use Rattle.mars_table.specs.Finding.{find_row}
-use Rattle.mars_table.specs.Rows.{HasRow, IsTree}
-use Rattle.mars_reach.specs.Part.{AreApart}
+use Rattle.mars_table.specs.Rows.{HasRow, IsRowOf}
+use Rattle.mars_reach.specs.Part.{IsReduced}
 use Rattle.mars_table.specs.TableInside.{rows_of}
 use Rattle.mars_table.proofs.Found.{find_means}
 use Rattle.mars_table.proofs.Added.{none_or_some}
@@ -15,8 +15,8 @@ use Rattle.mars_table.proofs.Stored.{closed_stored, apart_stored, tree_stored, h
 pub same_labels : (g h : List Node) (n m : ℕ) → Same g n h m → label_of g n ≡ label_of h m
 same_labels g h n m same = label_from_stands (label_of g n) (label_of h m) n m (same_Some (shown_at g n) (shown_at h m) (same []))
 
-module _ (rows tree : List Node) (rows_are : IsGraph rows) (labels : IsGround rows) (apart : AreApart rows) (tree_is : IsGraph tree) (tree_labels : IsGround tree) (n : ℕ) (n_in : n < length tree) where
-  means : (h : ℕ) → (find_row (rows_of rows) tree n ≡ Some h → HasRow (rows_of rows) h × IsTree (rows_of rows) h tree n) × (HasRow (rows_of rows) h × IsTree (rows_of rows) h tree n → find_row (rows_of rows) tree n ≡ Some h)
+module _ (rows tree : List Node) (rows_are : IsGraph rows) (labels : IsGround rows) (apart : IsReduced rows) (tree_is : IsGraph tree) (tree_labels : IsGround tree) (n : ℕ) (n_in : n < length tree) where
+  means : (h : ℕ) → (find_row (rows_of rows) tree n ≡ Some h → HasRow (rows_of rows) h × IsRowOf (rows_of rows) h tree n) × (HasRow (rows_of rows) h × IsRowOf (rows_of rows) h tree n → find_row (rows_of rows) tree n ≡ Some h)
   means h = find_means (rows_of rows) tree n h (closed_stored rows rows_are labels) (apart_stored rows rows_are labels apart) tree_is tree_labels n_in
 
   pub found_here : (k : ℕ) → k < length rows → Same rows k tree n → Some k ≡ find_row (rows_of rows) tree n

@@ -12,7 +12,7 @@ use Rattle.mars_tree.proofs.Paths.{kid_in, label_in}
 use Rattle.mars_table.specs.Finding.{find_row}
 use Rattle.mars_table.specs.Fresh.{fresh_nodes}
 use Rattle.mars_table.specs.Object.{fresh_before, number_of, fresh_row}
-use Rattle.mars_reach.specs.Order.{moved, renumbered}
+use Rattle.mars_reach.specs.Order.{renumbered_node, renumbered}
 use Rattle.mars_table.specs.Renumber.{at_places}
 use Rattle.mars_table.specs.Renumber.{HasLabels, KidsFit}
 use Rattle.mars_table.specs.Rows.{Row}
@@ -76,9 +76,9 @@ module _ (rows : List Row) (next : ℕ) (g : List Node) where
   rows_fresh a (suc count) b e = elim (none_or_some (find_row rows g a)) [
     | inl none ↦
         let number : b ≡ number_of rows next g a = e ∙ ap (λ (o : Option ℕ). unwrap_or o (next + fresh_before rows g a)) (sym none) in
-        let here : as_row b (moved g (number_of rows next g) a) ≡ fresh_row rows next g a =
-        ap (λ n. as_row n (moved g (number_of rows next g) a)) number
-        ∙ ap (λ (o : Option ℕ). cond (is_none o) (as_row (number_of rows next g a) (moved g (number_of rows next g) a)) None) (sym none) in
+        let here : as_row b (renumbered_node g (number_of rows next g) a) ≡ fresh_row rows next g a =
+        ap (λ n. as_row n (renumbered_node g (number_of rows next g) a)) number
+        ∙ ap (λ (o : Option ℕ). cond (is_none o) (as_row (number_of rows next g a) (renumbered_node g (number_of rows next g) a)) None) (sym none) in
         let kept : filter (λ m. is_none (find_row rows g m)) (range_with_len a (suc count)) ≡ a ∷ filter (λ m. is_none (find_row rows g m)) (range_with_len (a + 1) count) =
         ap (λ (o : Option ℕ). cond (is_none o) (a ∷ filter (λ m. is_none (find_row rows g m)) (range_with_len (a + 1) count)) (filter (λ m. is_none (find_row rows g m)) (range_with_len (a + 1) count))) none in
         ap (λ ns. rows_from b (renumbered g (number_of rows next g) ns)) kept
@@ -86,7 +86,7 @@ module _ (rows : List Row) (next : ℕ) (g : List Node) where
         ∙ ap (cons_option (fresh_row rows next g a)) (rows_fresh (a + 1) count (b + 1) (omega (arith, e, before_none a none)))
     | inr some ↦
         let gone : ◌≡◌ {A = Option Row} None (fresh_row rows next g a) =
-        ap (λ (o : Option ℕ). cond (is_none o) (as_row (number_of rows next g a) (moved g (number_of rows next g) a)) None) (sym some.1) in
+        ap (λ (o : Option ℕ). cond (is_none o) (as_row (number_of rows next g a) (renumbered_node g (number_of rows next g) a)) None) (sym some.1) in
         let kept : filter (λ m. is_none (find_row rows g m)) (range_with_len a (suc count)) ≡ filter (λ m. is_none (find_row rows g m)) (range_with_len (a + 1) count) =
         ap (λ (o : Option ℕ). cond (is_none o) (a ∷ filter (λ m. is_none (find_row rows g m)) (range_with_len (a + 1) count)) (filter (λ m. is_none (find_row rows g m)) (range_with_len (a + 1) count))) some.1 in
         ap (λ ns. rows_from b (renumbered g (number_of rows next g) ns)) kept
@@ -146,7 +146,7 @@ own_place count n lt = let e : 0 + n ≡ n = omega arith in get_or-range_with_le
 -- a graph under its own numbers
 pub copy_is : (g : List Node) → IsGraph g → renumbered g (at_places (range_with_len 0 (length g))) (range_with_len 0 (length g)) ≡ g
 copy_is g g_is =
-    map_like (moved g (at_places (range_with_len 0 (length g)))) (λ n. get_or g n free_leaf) (range_with_len 0 (length g))
+    map_like (renumbered_node g (at_places (range_with_len 0 (length g)))) (λ n. get_or g n free_leaf) (range_with_len 0 (length g))
     (λ k n e.
     let lt : n < length g = omega (arith, in_range_of 0 (length g) k n e) in
     ap (λ ks. record { label = label_of g n; kids = ks }) (map_same (at_places (range_with_len 0 (length g))) (kids_of g n) (λ j kid f. own_place (length g) kid (kid_in g n j kid g_is lt f))))

@@ -8,7 +8,7 @@ use Rattle.mars_table.specs.Finding.{find_row}
 use Rattle.mars_tree.specs.Graph.{Node, IsGraph, IsGround}
 use Rattle.mars_table.specs.Rows.{Row, HasRow, SameRow}
 use Rattle.mars_table.specs.Object.{number_of, fresh_before, fresh_rows}
-use Rattle.mars_reach.specs.Part.{AreApart}
+use Rattle.mars_reach.specs.Part.{IsReduced}
 use Rattle.mars_table.specs.TableInside.{as_row, rows_from, rows_of}
 use Rattle.mars_table.specs.TableLaws.{InternsTrees}
 use Rattle.mars_table.specs.TreeGraph.{IsTreeGraph}
@@ -25,7 +25,7 @@ rows_from-append b c [] h e = ap (λ n. rows_from n h) (omega arith)
 rows_from-append b c (node ∷ g) h e =
     ap (cons_option (as_row b node)) (rows_from-append (b + 1) c g h (omega arith)) ∙ cons_option-append (as_row b node) (rows_from (b + 1) g) (rows_from c h)
 
-module _ (g tree grown : List Node) (g_is : IsGraph g) (ground : IsGround g) (apart : AreApart g) (is_tree : IsTreeGraph tree)
+module _ (g tree grown : List Node) (g_is : IsGraph g) (ground : IsGround g) (apart : IsReduced g) (is_tree : IsTreeGraph tree)
     (grown_is : IsGraph grown) (grown_ground : IsGround grown) (e : rows_of grown ≡ rows_of g ++ fresh_rows (rows_of g) (length g) tree) where
   interned : InternsTrees (rows_of g) (length g) tree
   interned =
@@ -33,7 +33,7 @@ module _ (g tree grown : List Node) (g_is : IsGraph g) (ground : IsGround g) (ap
       is_tree.graph is_tree.labels is_tree.canonical.distinct
 
   -- no two nodes are the same tree
-  pub grown_apart : AreApart grown
+  pub grown_apart : IsReduced grown
   grown_apart i j i_in j_in same =
       interned.apart i j (subst (λ (rows : List Row). HasRow rows i) e (has_stored grown grown_is grown_ground i i_in)) (subst (λ (rows : List Row). HasRow rows j) e (has_stored grown grown_is grown_ground j j_in))
       (subst (λ (rows : List Row). SameRow rows i rows j) e (λ path. tree_stored grown grown_is grown_ground i i_in path ∙ same path ∙ sym (tree_stored grown grown_is grown_ground j j_in path)))

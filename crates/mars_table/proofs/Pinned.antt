@@ -9,14 +9,14 @@ use Rattle.mars_tree.specs.Canonical.{IsCanonical}
 use Rattle.mars_tree.proofs.Walks.{walk-push}
 use Rattle.mars_tree.proofs.Paths.{kid_in}
 use Rattle.mars_tree.proofs.Unique.{roots_in}
-use Rattle.mars_table.specs.Rows.{Row, row_at, HasRow, kids_of_row, row_end, IsTree}
+use Rattle.mars_table.specs.Rows.{Row, row_at, HasRow, kids_of_row, row_end, IsRowOf}
 use Rattle.mars_table.specs.Object.{TableObject, fresh_before, fresh_rows, number_of, sweep, is_met}
 use Rattle.mars_table.specs.Object.{intern}
 use Rattle.mars_table.specs.TreeGraph.{IsTreeGraph}
 use Rattle.mars_table.specs.Object.Interned.{kept, full}
-use Rattle.mars_table.specs.Sound.{IsClosed, IsApart, IsMet}
+use Rattle.mars_table.specs.Sound.{AreClosed, IsApart, IsMet}
 use Rattle.mars_table.specs.Lasting.{KeepsTrees, InternKeepsTrees}
-use Rattle.mars_table.specs.Met.{AreMet, InternKeepsMet, SweepKeepsMet}
+use Rattle.mars_table.specs.Met.{AreAllMet, InternKeepsMet, SweepKeepsMet}
 use Rattle.mars_table.proofs.RowFacts.{some_of, number_at, kid_is_row, All-find}
 use Rattle.mars_table.proofs.Added.{old_has, has_number, old_or_node, intern_means}
 use Rattle.mars_table.proofs.Swept.{sweep_means}
@@ -49,7 +49,7 @@ reached_below g is (suc bound) i lt i_in = elim (Contains-append_cases (0 ∷ []
     first (zero, e) = ([], e)
     first (suc k, e) = absurd (let e' : None ≡ Some i = e in cc)
 
-module _ (rows : List Row) (next : ℕ) (g : List Node) (closed : IsClosed rows) (apart : IsApart rows) (below : All (λ row. row.number < next) rows)
+module _ (rows : List Row) (next : ℕ) (g : List Node) (closed : AreClosed rows) (apart : IsApart rows) (below : All (λ row. row.number < next) rows)
     (g_is : IsGraph g) (ground : IsGround g) (distinct : (i j : ℕ) → i < length g → j < length g → Same g i g j → i ≡ j) where
   -- a walk over old rows stays
   stays : (path : List ℕ) (n h : ℕ) → HasRow rows n → row_end rows n path ≡ Some h → row_end (rows ++ fresh_rows rows next g) n path ≡ Some h
@@ -97,7 +97,7 @@ intern_keeps_trees t new who h g sound is e =
     let root = m.trees 0 (root_in g is) in (
       subst (λ (n : TableObject). KeepsTrees t n) k.1 (λ n has. ((old_has t.rows t.next g sound.closed sound.apart sound.below is.graph is.labels is.canonical.distinct n has).0, m.kept n has)),
       subst (λ (n : TableObject). HasRow n.rows h) k.1 (subst (λ (i : ℕ). HasRow (grown t who g).rows i) k.0 root.0),
-      subst (λ (n : TableObject). IsTree n.rows h g 0) k.1 (subst (λ (i : ℕ). IsTree (grown t who g).rows i g 0) k.0 root.1),
+      subst (λ (n : TableObject). IsRowOf n.rows h g 0) k.1 (subst (λ (i : ℕ). IsRowOf (grown t who g).rows i g 0) k.0 root.1),
     )
 
 pub intern_keeps_met : InternKeepsMet
@@ -121,7 +121,7 @@ intern_keeps_met t new who h g sound met is e =
             meets = carries t.rows t.next g sound.closed sound.apart sound.below is.graph is.labels is.canonical.distinct r.0 0 w.0 (root_in g is) r.1 ∙ ap (λ n. Some n) w.3;
           }
     ] in
-    subst AreMet (intern_kept t new who h g e).1 by
+    subst AreAllMet (intern_kept t new who h g e).1 by
 
 -- a filter by number that takes a row shows that the number passes
 passes : (q : ℕ → Bool) (rows : List Row) (h : ℕ) → HasRow (filter (λ row. q row.number) rows) h → q h ≡ true

@@ -6,7 +6,7 @@ use Rattle.std.proofs.lemmas.List.{take_more, take-append-le, length-take-le, le
 use Rattle.std.proofs.lemmas.Option.{same_Some, slice_get_within, get_or_from_slice_get}
 use Rattle.mars_tree.specs.declared.label.Label.{Label}
 use Rattle.mars_tree.specs.Graph.{Node, label_of, kids_of, labelled, with_kid, free_leaf}
-use Rattle.mars_reach.specs.Order.{moved, renumbered}
+use Rattle.mars_reach.specs.Order.{renumbered_node, renumbered}
 use Rattle.mars_table.specs.Renumber.{WithLabels}
 
 -- an element of a list with one more is old, or the last
@@ -85,7 +85,7 @@ module _ (f : ℕ → ℕ) (from mid now : List Node) (nodes : List ℕ) (start 
   done_length =
       let front : length (take start mid) ≡ start = length-take-le start mid (omega (arith, le, lt)) in
       let back : length (renumbered from f (take (node - start) nodes)) ≡ node - start =
-      length-map (take (node - start) nodes) (moved from f) ∙ length-take-le (node - start) nodes (omega (arith, slice_get_within nodes (node - start) n get)) in
+      length-map (take (node - start) nodes) (renumbered_node from f) ∙ length-take-le (node - start) nodes (omega (arith, slice_get_within nodes (node - start) n get)) in
       omega (arith, length-append (take start mid) (renumbered from f (take (node - start) nodes)), front, back, le)
 
   -- the node that is next stands behind those that are done
@@ -105,11 +105,11 @@ module _ (f : ℕ → ℕ) (from mid now : List Node) (nodes : List ℕ) (start 
       new ≡ take start mid ++ renumbered from f (take (node + 1 - start) nodes) ++ drop (node + 1) mid
   unfolding done
   add_more new label after =
-      let v : Node = moved from f n in
+      let v : Node = renumbered_node from f n in
       let same : label_of now node ≡ label_of from n = ap (λ (w : Node). w.label) next_node ∙ label in
       let count : node + 1 - start ≡ node - start + 1 = omega (arith, le) in
       let more : renumbered from f (take (node + 1 - start) nodes) ≡ renumbered from f (take (node - start) nodes) ++ v ∷ [] =
-      ap (λ k. renumbered from f (take k nodes)) count ∙ ap (renumbered from f) (take_one_more nodes (node - start) n get) ∙ map-append (moved from f) (take (node - start) nodes) (n ∷ []) in
+      ap (λ k. renumbered from f (take k nodes)) count ∙ ap (renumbered from f) (take_one_more nodes (node - start) n get) ∙ map-append (renumbered_node from f) (take (node - start) nodes) (n ∷ []) in
       after ∙ ap (λ o. set now node (record { label = o; kids = map f (kids_of from n) })) same
       ∙ ap (λ g. set g node v) seam ∙ ap (λ i. set (done ++ get_or mid node free_leaf ∷ drop (node + 1) mid) i v) (sym done_length)
       ∙ set-append_seam done (get_or mid node free_leaf) (drop (node + 1) mid) v

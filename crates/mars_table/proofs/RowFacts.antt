@@ -15,7 +15,7 @@ use Rattle.mars_tree.specs.Graph.{arity_at}
 use Rattle.mars_tree.proofs.Walks.{IsFinite}
 use Rattle.mars_table.specs.Rows.{Row, row_at, HasRow, kids_of_row, label_of_row}
 use Rattle.mars_table.specs.Finding.{label_eq, same_label}
-use Rattle.mars_table.specs.Sound.{IsClosed}
+use Rattle.mars_table.specs.Sound.{AreClosed}
 
 -- `label_eq` tests equality
 pub Decides-label_eq : (a b : Label) → Decides (label_eq a b) (a ≡ b)
@@ -119,7 +119,7 @@ place-apart (r ∷ rows) h j is js e =
     step false false o p k l f g is js rest e = rest is js (omega arith)
 
 -- a kid is a row
-pub kid_is_row : (rows : List Row) (h k kid : ℕ) → IsClosed rows → HasRow rows h → slice_get (kids_of_row rows h) k ≡ Some kid → HasRow rows kid
+pub kid_is_row : (rows : List Row) (h k kid : ℕ) → AreClosed rows → HasRow rows h → slice_get (kids_of_row rows h) k ≡ Some kid → HasRow rows kid
 kid_is_row rows h k kid closed has e =
     let row = some_of (row_at rows h) has in
     let kids : kids_of_row rows h ≡ row.0.kids = ap (λ o. unwrap_or (option_map (λ row. row.kids) o) []) row.1 in
@@ -127,7 +127,7 @@ kid_is_row rows h k kid closed has e =
     let all : All (HasRow rows) row.0.kids = All-find (λ row. All (HasRow rows) row.kids) (λ r. nat_eq r.number h) rows row.0 closed.kids row.1 in
     subst (HasRow rows) (get_or_from_slice_get row.0.kids k kid 0 get) (All-get_or (HasRow rows) row.0.kids k 0 (slice_get_within row.0.kids k kid get) all)
 
-pub rows_are_finite : (rows : List Row) → IsClosed rows → IsFinite (kids_of_row rows) (HasRow rows) (place rows) (length rows)
+pub rows_are_finite : (rows : List Row) → AreClosed rows → IsFinite (kids_of_row rows) (HasRow rows) (place rows) (length rows)
 rows_are_finite rows closed = record {
   stays = λ h kid k has e. kid_is_row rows h k kid closed has e;
   below = λ h has. place-below rows h has;
@@ -135,7 +135,7 @@ rows_are_finite rows closed = record {
 }
 
 -- a row has a label, and as many kids as that says
-pub row_kids : (rows : List Row) (h : ℕ) → IsClosed rows → HasRow rows h → length (kids_of_row rows h) ≡ arity_at (label_of_row rows h)
+pub row_kids : (rows : List Row) (h : ℕ) → AreClosed rows → HasRow rows h → length (kids_of_row rows h) ≡ arity_at (label_of_row rows h)
 row_kids rows h closed has =
     let row = some_of (row_at rows h) has in
     ap (λ o. length (unwrap_or (option_map (λ (row : Row). row.kids) o) [])) row.1

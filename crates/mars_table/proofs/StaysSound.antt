@@ -9,10 +9,10 @@ use Rattle.mars_tree.proofs.Paths.{label_in}
 use Rattle.mars_tree.proofs.Unique.{one_from_same_roots}
 use Rattle.mars_table.specs.Fresh.{fresh_nodes}
 use Rattle.mars_table.specs.Object.{TableObject, intern, kept, full, fresh_before, fresh_rows, number_of}
-use Rattle.mars_reach.specs.Order.{moved, renumbered}
+use Rattle.mars_reach.specs.Order.{renumbered_node, renumbered}
 use Rattle.mars_table.specs.Rows.{Row, HasRow, tree_of}
 use Rattle.mars_table.specs.Sound.{IsSound}
-use Rattle.mars_table.specs.SoundLaws.{table_after, InternKeepsSound, InternsToLasts, NumbersAgree, OneAnswer}
+use Rattle.mars_table.specs.SoundLaws.{table_after, InternKeepsSound, InternsToLasts, NumbersAgree, OneInterning}
 use Rattle.mars_table.specs.TableInside.{rows_from}
 use Rattle.mars_table.specs.TreeGraph.{IsTreeGraph}
 use Rattle.mars_table.proofs.Added.{old_has, intern_means}
@@ -34,13 +34,13 @@ module _ (t : TableObject) (who : ℕ) (g : List Node) (sound : IsSound t) (is :
 
   fresh_ground : IsGround fresh_graph
   unfolding fresh_graph
-  fresh_ground = All-map (λ node. node.label ≢ None) (moved g (number_of t.rows t.next g)) (fresh_nodes t.rows g (length g))
+  fresh_ground = All-map (λ node. node.label ≢ None) (renumbered_node g (number_of t.rows t.next g)) (fresh_nodes t.rows g (length g))
       (All-from_gets (λ n. label_of g n ≢ None) (fresh_nodes t.rows g (length g)) (λ k n e.
       label_in g n is.labels (All-slice_get (λ n. n < length g) (fresh_nodes t.rows g (length g)) k n (fresh_in_range t.rows g (length g)) e)))
 
   fresh_length : length fresh_graph ≡ fresh_before t.rows g (length g)
   unfolding fresh_graph
-  fresh_length = length-map (fresh_nodes t.rows g (length g)) (moved g (number_of t.rows t.next g)) ∙ length-fresh t.rows t.next g (length g)
+  fresh_length = length-map (fresh_nodes t.rows g (length g)) (renumbered_node g (number_of t.rows t.next g)) ∙ length-fresh t.rows t.next g (length g)
 
   fresh_numbers : All (λ row. (t.next ≤ row.number) × (row.number < t.next + fresh_before t.rows g (length g))) (fresh_rows t.rows t.next g)
   fresh_numbers =
@@ -97,7 +97,7 @@ numbers_agree t g h n m a b sound has_a has_b left right = (
   λ same. sound.apart a b has_a has_b (λ path. left path ∙ same path ∙ sym (right path)),
 )
 
-pub one_answer : OneAnswer
+pub one_answer : OneInterning
 one_answer old new other who g h n m a b left right same =
     let roots : Same left.tree 0 right.tree 0 = λ path. left.same path ∙ same path ∙ sym (right.same path) in
     let one = one_from_same_roots left.tree right.tree (0 ∷ []) (0 ∷ []) left.is_tree.graph right.is_tree.graph left.is_tree.canonical right.is_tree.canonical (roots, tt) in

@@ -12,9 +12,9 @@ use Rattle.mars_tree.proofs.Graphs.{node_in}
 use Rattle.mars_tree.proofs.Paths.{label_in, kid_in}
 use Rattle.mars_tree.proofs.Walks.{same_from_bisimulation}
 use Rattle.mars_table.specs.Rows.{Row, row_at, HasRow, kids_of_row, label_of_row, shown_at_row, tree_of}
-use Rattle.mars_table.specs.Sound.{IsClosed, IsApart, IsSound}
+use Rattle.mars_table.specs.Sound.{AreClosed, IsApart, IsSound}
 use Rattle.mars_table.proofs.Distinct.{numbers, apart_from}
-use Rattle.mars_reach.specs.Part.{AreApart}
+use Rattle.mars_reach.specs.Part.{IsReduced}
 use Rattle.mars_table.specs.TableInside.{as_row, rows_from, rows_of}
 
 -- a node with a label is a row
@@ -109,7 +109,7 @@ module _ (g : List Node) (g_is : IsGraph g) (ground : IsGround g) where
             (kid_in g i k x g_is r.0 left', same_Some x y (sym left' ∙ ap (λ n. slice_get (kids_of g n) k) r.1 ∙ right));
       }) i i (lt, refl)
 
-  pub closed_stored : IsClosed (rows_of g)
+  pub closed_stored : AreClosed (rows_of g)
   closed_stored = record {
     count = All-stored (λ row. length row.kids ≡ arity_of row.label) 0 g ground (λ i row lt e.
         let r = row_is (0 + i) (get_or g i free_leaf) (label_in g i ground lt) in
@@ -125,7 +125,7 @@ module _ (g : List Node) (g_is : IsGraph g) (ground : IsGround g) where
   pub stored_in : (h : ℕ) → HasRow (rows_of g) h → h < length g
   stored_in h has = let b = stored_below 0 g h ground has in omega (arith, b.1)
 
-  pub apart_stored : AreApart g → IsApart (rows_of g)
+  pub apart_stored : IsReduced g → IsApart (rows_of g)
   apart_stored apart a b has_a has_b same =
       let a_in : a < length g = stored_in a has_a in
       let b_in : b < length g = stored_in b has_b in
@@ -146,7 +146,7 @@ pub below_stored : (g : List Node) → IsGround g → All (λ row. row.number < 
 below_stored g ground = All-stored (λ row. row.number < length g) 0 g ground (λ i row lt e. omega (arith, lt, stored_number (0 + i) (get_or g i free_leaf) row e))
 
 -- what the fields stand for is sound
-pub sound_stored : (g : List Node) (pins : List (ℕ × ℕ)) (cap : ℕ) → IsGraph g → IsGround g → AreApart g → All (λ pin. pin.1 < length g) pins → length g ≤ cap →
+pub sound_stored : (g : List Node) (pins : List (ℕ × ℕ)) (cap : ℕ) → IsGraph g → IsGround g → IsReduced g → All (λ pin. pin.1 < length g) pins → length g ≤ cap →
     IsSound (record { rows = rows_of g; pins = pins; next = length g; limit = cap })
 sound_stored g pins cap g_is ground apart pinned within = record {
   numbers = distinct_stored 0 g ground;

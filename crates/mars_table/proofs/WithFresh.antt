@@ -9,11 +9,11 @@ use Rattle.mars_tree.proofs.Paths.{kid_in, label_in}
 use Rattle.mars_table.specs.Fresh.{fresh_nodes}
 use Rattle.std.proofs.lemmas.Bool.Decides.{nat_tests}
 use Rattle.mars_table.specs.Object.{Interned, kept, full, intern, fresh_before, number_of, fresh_rows}
-use Rattle.mars_reach.specs.Order.{moved, renumbered}
+use Rattle.mars_reach.specs.Order.{renumbered_node, renumbered}
 use Rattle.mars_table.specs.Renumber.{at_places}
 use Rattle.mars_table.specs.Renumber.{HasLabels, KidsFit}
 use Rattle.mars_table.specs.Rows.{Row}
-use Rattle.mars_reach.specs.Part.{AreApart}
+use Rattle.mars_reach.specs.Part.{IsReduced}
 use Rattle.mars_table.specs.TableInside.{rows_from, rows_of}
 use Rattle.mars_table.specs.TreeGraph.{IsTreeGraph}
 use Rattle.mars_table.proofs.FoundNodes.{found_is}
@@ -29,7 +29,7 @@ pub record HasGrown (g tree grown : List Node) : Type 0 where
   pub graph : IsGraph grown
   pub labels : IsGround grown
 
-module _ (g tree : List Node) (numbers fresh : List ℕ) (g_is : IsGraph g) (ground : IsGround g) (apart : AreApart g) (is_tree : IsTreeGraph tree)
+module _ (g tree : List Node) (numbers fresh : List ℕ) (g_is : IsGraph g) (ground : IsGround g) (apart : IsReduced g) (is_tree : IsTreeGraph tree)
     (numbers_are : numbers ≡ map (number_of (rows_of g) (length g) tree) (range_with_len 0 (length tree))) (fresh_are : fresh ≡ fresh_nodes (rows_of g) tree (length tree)) where
   pub fresh_below : All (λ n. n < length tree) fresh
   fresh_below = subst (λ (xs : List ℕ). All (λ n. n < length tree) xs) (sym fresh_are) (fresh_in_range (rows_of g) tree (length tree))
@@ -68,13 +68,13 @@ module _ (g tree : List Node) (numbers fresh : List ℕ) (g_is : IsGraph g) (gro
   more_is : more ≡ renumbered tree (number_of (rows_of g) (length g) tree) (fresh_nodes (rows_of g) tree (length tree))
   unfolding more
   more_is =
-      map_like (moved tree (at_places numbers)) (moved tree (number_of (rows_of g) (length g) tree)) fresh (λ k n e.
+      map_like (renumbered_node tree (at_places numbers)) (renumbered_node tree (number_of (rows_of g) (length g) tree)) fresh (λ k n e.
       ap (λ ks. record { label = label_of tree n; kids = ks }) (map_like (at_places numbers) (number_of (rows_of g) (length g) tree) (kids_of tree n) (λ j kid f. number_at kid (kid_in tree n j kid is_tree.graph (in_tree k n e) f))))
       ∙ ap (renumbered tree (number_of (rows_of g) (length g) tree)) fresh_are
 
   more_length : length more ≡ length fresh
   unfolding more
-  more_length = length-map fresh (moved tree (at_places numbers))
+  more_length = length-map fresh (renumbered_node tree (at_places numbers))
 
   pub has_grown : (grown : List Node) → grown ≡ g ++ renumbered tree (at_places numbers) fresh → HasGrown g tree grown
   unfolding more
@@ -85,7 +85,7 @@ module _ (g tree : List Node) (numbers fresh : List ℕ) (g_is : IsGraph g) (gro
       let nodes : All (IsNode (length g + length fresh)) (g ++ more) =
       All-append (IsNode (length g + length fresh)) g more
       (All-weaker (IsNode (length g)) (IsNode (length g + length fresh)) (λ node is. record { kids = is.kids; in_range = All-weaker (λ kid. kid < length g) (λ kid. kid < length g + length fresh) (λ kid lt. omega (arith, lt)) node.kids is.in_range }) g g_is)
-      (All-map (IsNode (length g + length fresh)) (moved tree (at_places numbers)) fresh (All-from_gets (λ n. IsNode (length g + length fresh) (moved tree (at_places numbers) n)) fresh (λ k n f. record {
+      (All-map (IsNode (length g + length fresh)) (renumbered_node tree (at_places numbers)) fresh (All-from_gets (λ n. IsNode (length g + length fresh) (renumbered_node tree (at_places numbers) n)) fresh (λ k n f. record {
         kids = length-map (kids_of tree n) (at_places numbers) ∙ (node_in tree n is_tree.graph (in_tree k n f)).kids;
         in_range = All-map (λ kid. kid < length g + length fresh) (at_places numbers) (kids_of tree n)
             (All-from_gets (λ kid. at_places numbers kid < length g + length fresh) (kids_of tree n) (λ j kid h. number_fits kid (kid_in tree n j kid is_tree.graph (in_tree k n f) h)));
@@ -96,7 +96,7 @@ module _ (g tree : List Node) (numbers fresh : List ℕ) (g_is : IsGraph g) (gro
         count = omega (arith, ap length e, length-append g more, more_length, fresh_count);
         graph = subst IsGraph (sym e) (subst (λ (n : ℕ). All (IsNode n) (g ++ more)) count nodes);
         labels = subst (λ (h : List Node). All (λ node. node.label ≢ None) h) (sym e)
-            (All-append (λ node. node.label ≢ None) g more ground (All-map (λ node. node.label ≢ None) (moved tree (at_places numbers)) fresh fresh_has_labels));
+            (All-append (λ node. node.label ≢ None) g more ground (All-map (λ node. node.label ≢ None) (renumbered_node tree (at_places numbers)) fresh fresh_has_labels));
       }
 
   -- where no node is fresh the rows are as they were

@@ -1,7 +1,7 @@
 -- Trees last: what a number means stays while the table grows.
 use Rattle.std.specs.Prelude.{◌≡◌, ℕ, List}
 use Rattle.mars_tree.specs.Graph.{Node}
-use Rattle.mars_table.specs.Rows.{HasRow, IsTree, SameRow}
+use Rattle.mars_table.specs.Rows.{HasRow, IsRowOf, SameRow}
 use Rattle.mars_table.specs.Object.{TableObject, intern}
 use Rattle.mars_table.specs.Object.Interned.{kept}
 use Rattle.mars_table.specs.Sound.{IsSound}
@@ -14,4 +14,4 @@ KeepsTrees old new = (h : ℕ) → HasRow old.rows h → HasRow new.rows h × Sa
 -- interning keeps the trees that are there, and its number is that of the tree
 abbrev pub InternKeepsTrees : Type 0
 InternKeepsTrees = (t new : TableObject) (who h : ℕ) (g : List Node) → IsSound t → IsTreeGraph g → intern t who g ≡ kept h new →
-    KeepsTrees t new × HasRow new.rows h × IsTree new.rows h g 0
+    KeepsTrees t new × HasRow new.rows h × IsRowOf new.rows h g 0

@@ -8,13 +8,13 @@ use Rattle.mars_table.specs.Sound.{IsSound, IsMet}
 use Rattle.mars_table.specs.TreeGraph.{IsTreeGraph}
 
 -- a walk from a pin meets each row
-abbrev pub AreMet : TableObject → Type 0
-AreMet t = (h : ℕ) → HasRow t.rows h → IsMet t h
+abbrev pub AreAllMet : TableObject → Type 0
+AreAllMet t = (h : ℕ) → HasRow t.rows h → IsMet t h
 
 -- what is interned is met from the pin that it is given
 abbrev pub InternKeepsMet : Type 0
-InternKeepsMet = (t new : TableObject) (who h : ℕ) (g : List Node) → IsSound t → AreMet t → IsTreeGraph g → intern t who g ≡ kept h new → AreMet new
+InternKeepsMet = (t new : TableObject) (who h : ℕ) (g : List Node) → IsSound t → AreAllMet t → IsTreeGraph g → intern t who g ≡ kept h new → AreAllMet new
 
 -- a sweep leaves such a table as it is
 abbrev pub SweepKeepsMet : Type 0
-SweepKeepsMet = (t : TableObject) → IsSound t → AreMet t → sweep t ≡ t
+SweepKeepsMet = (t : TableObject) → IsSound t → AreAllMet t → sweep t ≡ t

@@ -37,8 +37,8 @@ abbrev pub tree_of : List Row → ℕ → List ℕ → Option Shown
 tree_of rows h path = option_map (shown_at_row rows) (row_end rows h path)
 
 -- row `h` is the same tree as node `n`
-abbrev pub IsTree : List Row → ℕ → List Node → ℕ → Type 0
-IsTree rows h g n = (path : List ℕ) → tree_of rows h path ≡ at g n path
+abbrev pub IsRowOf : List Row → ℕ → List Node → ℕ → Type 0
+IsRowOf rows h g n = (path : List ℕ) → tree_of rows h path ≡ at g n path
 
 -- two rows, each of its own list, are the same tree
 abbrev pub SameRow : List Row → ℕ → List Row → ℕ → Type 0

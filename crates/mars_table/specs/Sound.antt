@@ -6,7 +6,7 @@ use Rattle.mars_table.specs.Rows.{Row, HasRow, SameRow, row_end}
 use Rattle.mars_table.specs.Object.{TableObject}
 
 -- each row has a kid for each place of its label, and the kids are rows
-pub record IsClosed (rows : List Row) : Type 0 where
+pub record AreClosed (rows : List Row) : Type 0 where
   pub count : All (λ row. length row.kids ≡ arity_of row.label) rows
   pub kids : All (λ row. All (HasRow rows) row.kids) rows
 
@@ -18,7 +18,7 @@ IsApart rows = (a b : ℕ) → HasRow rows a → HasRow rows b → SameRow rows 
 pub record IsSound (t : TableObject) : Type 0 where
   pub numbers : IsDistinct nat_eq (map (λ row. row.number) t.rows)
   pub below : All (λ row. row.number < t.next) t.rows
-  pub closed : IsClosed t.rows
+  pub closed : AreClosed t.rows
   pub pins : All (λ pin. HasRow t.rows pin.1) t.pins
   pub limit : length t.rows ≤ t.limit
   pub apart : IsApart t.rows

@@ -1,7 +1,7 @@
 -- Each call keeps a table sound, and numbers of a sound table agree exactly where trees do.
 use Rattle.std.specs.Prelude.{◌≡◌, ◌↔◌, ℕ, List}
 use Rattle.mars_tree.specs.Graph.{Node, Same}
-use Rattle.mars_table.specs.Rows.{HasRow, IsTree}
+use Rattle.mars_table.specs.Rows.{HasRow, IsRowOf}
 use Rattle.mars_table.specs.Object.{TableObject, Interned, intern, sweep}
 use Rattle.mars_table.specs.Object.Interned.{kept, full}
 use Rattle.mars_table.specs.Sound.{IsSound}
@@ -26,17 +26,17 @@ pub record Lasts (old : TableObject) (g : List Node) (root h : ℕ) (new : Table
   pub sound : IsSound new
   pub trees : KeepsTrees old new
   pub has : HasRow new.rows h
-  pub tree : IsTree new.rows h g root
+  pub tree : IsRowOf new.rows h g root
 
 abbrev pub InternsToLasts : Type 0
 InternsToLasts = (old new : TableObject) (who : ℕ) (g : List Node) (root h : ℕ) → IsSound old → InternsTo old who g root h new → Lasts old g root h new
 
 -- two numbers are one exactly where their trees are
 abbrev pub NumbersAgree : Type 0
-NumbersAgree = (t : TableObject) (g h : List Node) (n m a b : ℕ) → IsSound t → HasRow t.rows a → HasRow t.rows b → IsTree t.rows a g n → IsTree t.rows b h m →
+NumbersAgree = (t : TableObject) (g h : List Node) (n m a b : ℕ) → IsSound t → HasRow t.rows a → HasRow t.rows b → IsRowOf t.rows a g n → IsRowOf t.rows b h m →
     (a ≡ b) ↔ Same g n h m
 
 -- the answer is fixed by the tree, whatever graph gives it
-abbrev pub OneAnswer : Type 0
-OneAnswer = (old new other : TableObject) (who : ℕ) (g h : List Node) (n m a b : ℕ) → InternsTo old who g n a new → InternsTo old who h m b other → Same g n h m →
+abbrev pub OneInterning : Type 0
+OneInterning = (old new other : TableObject) (who : ℕ) (g h : List Node) (n m a b : ℕ) → InternsTo old who g n a new → InternsTo old who h m b other → Same g n h m →
     (a ≡ b) × (new ≡ other)

@@ -3,7 +3,7 @@ use Rattle.std.specs.Prelude.{ℕ, ◌+◌, ◌^◌, ◌<◌, ◌≤◌, List, [
 use Rattle.std.specs.Option.{option_map}
 use Rattle.std.specs.List.{cons_option}
 use Rattle.mars_tree.specs.Graph.{Node, IsGraph, IsGround}
-use Rattle.mars_reach.specs.Part.{AreApart}
+use Rattle.mars_reach.specs.Part.{IsReduced}
 use Rattle.mars_table.specs.declared.table.Table.TheInside.{Inside}
 use Rattle.mars_table.specs.Rows.{Row}
 use Rattle.mars_table.specs.Object.{TableObject}
@@ -28,7 +28,7 @@ table_of p = record { rows = rows_of p.rows; pins = p.pins.items; next = length 
 pub record IsKept (p : Inside) : Type 0 where
   pub graph : IsGraph p.rows
   pub labels : IsGround p.rows
-  pub apart : AreApart p.rows
+  pub apart : IsReduced p.rows
   pub pinned : All (λ pin. pin.1 < length p.rows) p.pins.items
   pub within : length p.rows ≤ p.cap
   pub fits : p.cap < 2 ^ 64

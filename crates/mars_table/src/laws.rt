@@ -2,7 +2,7 @@
 ghost use Rattle.mars_table.specs.Examples.{Examples};
 ghost use Rattle.mars_table.specs.Lasting.{InternKeepsTrees};
 ghost use Rattle.mars_table.specs.Met.{InternKeepsMet, SweepKeepsMet};
-ghost use Rattle.mars_table.specs.SoundLaws.{InternKeepsSound, InternsToLasts, NumbersAgree, OneAnswer, SweepKeepsSound};
+ghost use Rattle.mars_table.specs.SoundLaws.{InternKeepsSound, InternsToLasts, NumbersAgree, OneInterning, SweepKeepsSound};
 ghost use Rattle.mars_table.specs.TableLaws.{FindMeans, InternMeans, SweepMeans};
 
 /// A row is found exactly where it is the same tree.
@@ -52,7 +52,7 @@ pub fn numbers_agree()
 
 /// The answer to interning is fixed by the tree, whatever graph gives it.
 pub fn one_answer()
-    ensures { OneAnswer }
+    ensures { OneInterning }
 {}
 
 /// A sweep keeps a table sound.

@@ -6,7 +6,7 @@ ghost use Rattle.mars_table.specs.Fresh.{fresh_nodes};
 ghost use Rattle.mars_table.specs.Object.{fresh_before, fresh_rows, number_of};
 ghost use Rattle.mars_reach.specs.Order.{renumbered};
 ghost use Rattle.mars_table.specs.Renumber.{at_places};
-ghost use Rattle.mars_reach.specs.Part.{AreApart};
+ghost use Rattle.mars_reach.specs.Part.{IsReduced};
 ghost use Rattle.mars_table.specs.TableInside.{rows_of};
 ghost use Rattle.mars_table.specs.TreeGraph.{IsTreeGraph};
 
@@ -26,7 +26,7 @@ struct Numbered {
 /// Finds the nodes of a tree among the rows; the others get the next numbers, in their order.
 fn number_nodes(alloc: Global, rows: &Graph, tree: &Graph) -> Result<Numbered, NoMemory>
     requires labels { IsGround rows.now }
-    requires apart { AreApart rows.now }
+    requires apart { IsReduced rows.now }
     requires tree { IsTreeGraph tree.now }
     requires room { length rows.now + length tree.now < 2 ^ 64 }
     ensures numbers { IfOk result (λ n. n.numbers.items ≡ map (number_of (rows_of rows.now) (length rows.now) tree.now) (range_with_len 0 (length tree.now))) }
@@ -77,7 +77,7 @@ fn with_fresh(
     numbered: &Numbered,
 ) -> Result<Graph, NoMemory>
     requires labels { IsGround rows.now }
-    requires apart { AreApart rows.now }
+    requires apart { IsReduced rows.now }
     requires tree { IsTreeGraph tree.now }
     requires numbers { numbered.now.numbers.items ≡ map (number_of (rows_of rows.now) (length rows.now) tree.now) (range_with_len 0 (length tree.now)) }
     requires fresh { numbered.now.fresh.items ≡ fresh_nodes (rows_of rows.now) tree.now (length tree.now) }
@@ -93,7 +93,7 @@ fn with_fresh(
 pub(crate) fn grow(alloc: Global, rows: &mut Graph, tree: &Graph) -> Result<usize, NoMemory>
     requires graph { IsGraph rows.old }
     requires labels { IsGround rows.old }
-    requires apart { AreApart rows.old }
+    requires apart { IsReduced rows.old }
     requires tree { IsTreeGraph tree.now }
     requires room { length rows.old + length tree.now < 2 ^ 64 }
     ensures rows { OnOk result (rows_of rows.new ≡ rows_of rows.old ++ fresh_rows (rows_of rows.old) (length rows.old) tree.now) }

@@ -2,7 +2,7 @@
 ghost use Rattle.std.specs.Prelude.{◌≡◌, ◌<◌, ◌↔◌, IsTrue, length, IfOk};
 ghost use Rattle.mars_tree.specs.Graph.{label_of, IsGround, Same};
 ghost use Rattle.mars_table.specs.Finding.{find_row};
-ghost use Rattle.mars_reach.specs.Part.{AreApart};
+ghost use Rattle.mars_reach.specs.Part.{IsReduced};
 ghost use Rattle.mars_table.specs.TableInside.{rows_of};
 ghost use Rattle.mars_table.specs.TreeGraph.{IsTreeGraph};
 
@@ -41,7 +41,7 @@ pub(crate) fn find(
     node: usize,
 ) -> Result<Option<usize>, NoMemory>
     requires labels { IsGround rows.now }
-    requires apart { AreApart rows.now }
+    requires apart { IsReduced rows.now }
     requires tree { IsTreeGraph tree.now }
     requires node_in { node < length tree.now }
     ensures { IfOk result (λ found. found ≡ find_row (rows_of rows.now) tree.now node) }

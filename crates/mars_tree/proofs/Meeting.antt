@@ -7,7 +7,7 @@ use Rattle.std.proofs.lemmas.Map.Steps.{length-le_from_distinct_below}
 use Rattle.std.proofs.lemmas.Map.Views.{Contains-from_any}
 use Rattle.std.proofs.lemmas.List.{length-map}
 use Rattle.std.proofs.lemmas.List.Elements.{All-push, Contains-push, All-contains, recursion_from_All, All-from_recursion}
-use Rattle.mars_tree.specs.Pairs.{Met, Grows}
+use Rattle.mars_tree.specs.Pairs.{MetPairs, PairsGrow}
 
 -- whether two pairs are the same
 abbrev pub same_pair : ℕ × ℕ → ℕ × ℕ → Bool
@@ -85,13 +85,13 @@ length-met height width met within distinct =
     (λ q h. All-contains (λ c. c < height * width) (map (code width) met) q below (Contains-from_any (λ x y e. eqb-true x y e) q (map (code width) met) h)))
 
 -- the pairs with one that may be new, as a growth
-pub Grows-meet : (height width : ℕ) (pair : ℕ × ℕ) (keys now : List (ℕ × ℕ)) (old : Met) → now ≡ with_pair keys pair →
-    ◌≡◌ {A = Met} (record { height = height; width = width; pairs = keys }) old → Grows (λ p. p ≡ pair) old (record { height = height; width = width; pairs = now })
+pub Grows-meet : (height width : ℕ) (pair : ℕ × ℕ) (keys now : List (ℕ × ℕ)) (old : MetPairs) → now ≡ with_pair keys pair →
+    ◌≡◌ {A = MetPairs} (record { height = height; width = width; pairs = keys }) old → PairsGrow (λ p. p ≡ pair) old (record { height = height; width = width; pairs = now })
 Grows-meet height width pair keys now old is seen =
-    let new : Met = record { height = height; width = width; pairs = now } in
-    let grows : Grows (λ p. p ≡ pair) (record { height = height; width = width; pairs = keys }) new = record {
+    let new : MetPairs = record { height = height; width = width; pairs = now } in
+    let grows : PairsGrow (λ p. p ≡ pair) (record { height = height; width = width; pairs = keys }) new = record {
       height = refl;
       width = refl;
       more = let m = with_pair-grows keys pair in (m.0, is ∙ m.1, m.2);
     } in
-    subst (λ (o : Met). Grows (λ p. p ≡ pair) o new) seen grows
+    subst (λ (o : MetPairs). PairsGrow (λ p. p ≡ pair) o new) seen grows

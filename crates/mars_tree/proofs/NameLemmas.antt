@@ -8,7 +8,7 @@ use Rattle.std.proofs.lemmas.Slice.Eq.{slice_eq-Decides}
 use Rattle.std.specs.Cmp.Lexicographic.{pointwise}
 use Rattle.std.specs.List.{position_from, list_any}
 use Rattle.std.specs.Option.{option_map}
-use Rattle.mars_tree.specs.Names.{place_of, known_with, built_in_names, AreDistinct}
+use Rattle.mars_tree.specs.Names.{place_of, with_text, built_in_names, AreDistinct}
 
 -- a place in the first list, else one in the second, which stands behind
 abbrev pub place_behind : ℕ → Option ℕ → Option ℕ → Option ℕ
@@ -129,7 +129,7 @@ names-added text f old new names x is grown at =
     ap (λ t. built_in_names ++ (map f old ++ t ∷ [])) at ∙ sym (append_assoc built_in_names (map f old) (text ∷ [])) ∙ ap (λ xs. xs ++ text ∷ []) is
 
 -- where a text is new, the names with it
-pub known_with-new : (text : List ℕ) (names : List (List ℕ)) → place_of text names ≡ None → known_with text names ≡ names ++ text ∷ []
+pub known_with-new : (text : List ℕ) (names : List (List ℕ)) → place_of text names ≡ None → with_text text names ≡ names ++ text ∷ []
 known_with-new text names missing = ap (λ o. if is_some o then names else names ++ text ∷ []) missing
 
 -- a list without a place has no such member

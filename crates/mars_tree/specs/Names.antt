@@ -13,12 +13,12 @@ abbrev pub place_of : List ℕ → List (List ℕ) → Option ℕ
 place_of text names = position (λ name. pointwise nat_eq text name) names
 
 -- the number of a text: its place, or the next one where it is new
-abbrev pub number_of : List ℕ → List (List ℕ) → ℕ
-number_of text names = unwrap_or (place_of text names) (length names)
+abbrev pub name_number : List ℕ → List (List ℕ) → ℕ
+name_number text names = unwrap_or (place_of text names) (length names)
 
 -- the names with a text, which goes last where it is new
-abbrev pub known_with : List ℕ → List (List ℕ) → List (List ℕ)
-known_with text names = if is_some (place_of text names) then names else names ++ text ∷ []
+abbrev pub with_text : List ℕ → List (List ℕ) → List (List ℕ)
+with_text text names = if is_some (place_of text names) then names else names ++ text ∷ []
 
 -- no text stands twice
 abbrev pub AreDistinct : List (List ℕ) → Type 0

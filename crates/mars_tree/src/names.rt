@@ -3,7 +3,7 @@
 
 ghost use Rattle.std.specs.Prelude.{◌≡◌, ◌-◌, ◌^◌, ◌<◌, ◌≤◌, length, slice_get, Some, IfOk, OnOk, OnErr, ◌++◌, ◌∷◌, [], None, map};
 ghost use Rattle.std.specs.Option.{option_map};
-ghost use Rattle.mars_tree.specs.Names.{built_in_names, place_of, number_of, known_with, AreDistinct};
+ghost use Rattle.mars_tree.specs.Names.{built_in_names, place_of, name_number, with_text, AreDistinct};
 
 use crate::label::NameId;
 use indexmap::IndexSet;
@@ -76,8 +76,8 @@ impl Names {
     /// The place of a text, which goes last where it is new.
     pub fn id(&mut self, text: &[u8]) -> Result<NameId, NoMemory>
         requires { length self.old < 2 ^ 32 - 1 }
-        ensures place { IfOk result (λ id. id.0 ≡ number_of text.now self.old) }
-        ensures names { OnOk result (self.new ≡ known_with text.now self.old) }
+        ensures place { IfOk result (λ id. id.0 ≡ name_number text.now self.old) }
+        ensures names { OnOk result (self.new ≡ with_text text.now self.old) }
         ensures err { OnErr result (self.new ≡ self.old) }
     {
         match self.find(text) {

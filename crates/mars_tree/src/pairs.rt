@@ -1,6 +1,6 @@
 //! The pairs of nodes that a comparison has met: a queue in which each pair stands once and is found at once.
 ghost use Rattle.std.specs.Prelude.{◌≡◌, ◌<◌, ◌≤◌, ◌*◌, [], length, slice_get, Some, OnOk, Contains};
-ghost use Rattle.mars_tree.specs.Pairs.{Grows};
+ghost use Rattle.mars_tree.specs.Pairs.{PairsGrow};
 
 use indexmap::IndexSet;
 use mars_base::NoMemory;
@@ -16,15 +16,15 @@ pub struct Pairs {
 }
 
 impl Model for Pairs {
-    ghost use Rattle.mars_tree.specs.Pairs.{Met};
+    ghost use Rattle.mars_tree.specs.Pairs.{MetPairs};
 
-    ghost Value = { Met };
+    ghost Value = { MetPairs };
 
-    ghost use Rattle.mars_tree.specs.PairsInside.{met_of, AreInside};
+    ghost use Rattle.mars_tree.specs.PairsInside.{met_of, AreBelow};
 
     ghost view = { met_of };
 
-    ghost invariant = { AreInside };
+    ghost invariant = { AreBelow };
 }
 
 impl Pairs {
@@ -43,7 +43,7 @@ impl Pairs {
     pub fn meet(&mut self, i: usize, j: usize) -> Result<(), NoMemory>
         requires i_in { i < self.old.height }
         requires j_in { j < self.old.width }
-        ensures grows { OnOk result (Grows (λ pair. pair ≡ (i, j)) self.old self.new) }
+        ensures grows { OnOk result (PairsGrow (λ pair. pair ≡ (i, j)) self.old self.new) }
         ensures there { OnOk result (Contains self.new.pairs (i, j)) }
     {
         self.met.insert((i, j))?;

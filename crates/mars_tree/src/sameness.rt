@@ -2,7 +2,7 @@
 ghost use Rattle.std.specs.Prelude.{◌≡◌, ◌<◌, ◌≤◌, ◌↔◌, IsTrue, ℕ, length, IfOk, OnOk, Contains};
 ghost use Rattle.mars_tree.specs.Graph.{IsGround, Same, kids_of};
 ghost use Rattle.mars_tree.specs.Kids.{IsKidPair};
-ghost use Rattle.mars_tree.specs.Pairs.{Grows};
+ghost use Rattle.mars_tree.specs.Pairs.{PairsGrow};
 
 use crate::graph::Graph;
 use crate::label::is_same;
@@ -17,7 +17,7 @@ fn meet_kids(a: &Graph, i: usize, b: &Graph, j: usize, pairs: &mut Pairs) -> Res
     requires arity { length (kids_of a.now i) ≡ length (kids_of b.now j) }
     requires height { pairs.old.height ≡ length a.now }
     requires width { pairs.old.width ≡ length b.now }
-    ensures grows { OnOk result (Grows (IsKidPair a.now i b.now j) pairs.old pairs.new) }
+    ensures grows { OnOk result (PairsGrow (IsKidPair a.now i b.now j) pairs.old pairs.new) }
     ensures kids { OnOk result ((pair : ℕ × ℕ) → IsKidPair a.now i b.now j pair → Contains pairs.new.pairs pair) }
 {
     for k in 0..a.arity(i) {

@@ -10,14 +10,14 @@ use Rattle.mars_read.specs.First.{nodes_in}
 use Rattle.mars_table.specs.Object.{TableObject, empty_table}
 use Rattle.mars_table.specs.Rows.{HasRow}
 use Rattle.mars_table.specs.Sound.{IsSound}
-use Rattle.mars_table.specs.Met.{AreMet}
+use Rattle.mars_table.specs.Met.{AreAllMet}
 use Rattle.mars_table.specs.Lasting.{KeepsTrees}
 use Rattle.mars_table.proofs.Pinned.{intern_keeps_met, intern_kept, sweep_keeps_met}
 use Rattle.mars_table.proofs.StaysSound.{interns_to_lasts}
-use Rattle.marseille.specs.declared.run.Answer.{Answer}
-use Rattle.marseille.specs.declared.run.Answer.TheVariants.{NameTaken, NotGround, Kept}
+use Rattle.marseille.specs.declared.run.PutAnswer.{PutAnswer}
+use Rattle.marseille.specs.declared.run.PutAnswer.TheVariants.{NameTaken, NotGround, Kept}
 use Rattle.marseille.specs.Run.{IsAnswered, AreAnswered, taken_with, row_limit}
-use Rattle.marseille.specs.Runs.{taken_behind, HoldsTree, HaveRun}
+use Rattle.marseille.specs.Runs.{taken_behind, IsKeptTree, HaveRun}
 use Rattle.marseille.specs.Text.{line_of, lines_of, session_line, counts_line, closing_line}
 use Rattle.mars_read.specs.declared.first.First.{First}
 use Rattle.marseille.specs.Run.{IsRun}
@@ -25,7 +25,7 @@ use Rattle.mars_table.specs.Object.{sweep, swept}
 use Rattle.marseille.proofs.Numbers.{numbers_of_trees}
 
 -- answers in turn, with one more at the end
-pub answered-push : (puts : List FirstPut) (answers : List Answer) (taken : List NameId) (old mid new : TableObject) (put : FirstPut) (answer : Answer) →
+pub answered-push : (puts : List FirstPut) (answers : List PutAnswer) (taken : List NameId) (old mid new : TableObject) (put : FirstPut) (answer : PutAnswer) →
     AreAnswered taken old puts answers mid → IsAnswered (taken_behind taken puts answers) mid put answer new → AreAnswered taken old (puts ++ put ∷ []) (answers ++ answer ∷ []) new
 answered-push [] [] taken old mid new put answer are is = (new, subst (λ (t : TableObject). IsAnswered taken t put answer new) are is, refl)
 answered-push [] (a ∷ answers) taken old mid new put answer are is = absurd are
@@ -33,14 +33,14 @@ answered-push (p ∷ puts) [] taken old mid new put answer are is = absurd are
 answered-push (p ∷ puts) (a ∷ answers) taken old mid new put answer are is =
     (are.0, are.1, answered-push puts answers (taken_with taken p.name a) are.0 mid new put answer are.2 is)
 
-pub taken-push : (puts : List FirstPut) (answers : List Answer) (taken : List NameId) (old mid : TableObject) (put : FirstPut) (answer : Answer) →
+pub taken-push : (puts : List FirstPut) (answers : List PutAnswer) (taken : List NameId) (old mid : TableObject) (put : FirstPut) (answer : PutAnswer) →
     AreAnswered taken old puts answers mid → taken_behind taken (puts ++ put ∷ []) (answers ++ answer ∷ []) ≡ taken_with (taken_behind taken puts answers) put.name answer
 taken-push [] [] taken old mid put answer are = refl
 taken-push [] (a ∷ answers) taken old mid put answer are = absurd are
 taken-push (p ∷ puts) [] taken old mid put answer are = absurd are
 taken-push (p ∷ puts) (a ∷ answers) taken old mid put answer are = taken-push puts answers (taken_with taken p.name a) are.0 mid put answer are.2
 
-pub lines-push : (names : List (List ℕ)) (puts : List FirstPut) (answers : List Answer) (taken : List NameId) (old mid : TableObject) (put : FirstPut) (answer : Answer) →
+pub lines-push : (names : List (List ℕ)) (puts : List FirstPut) (answers : List PutAnswer) (taken : List NameId) (old mid : TableObject) (put : FirstPut) (answer : PutAnswer) →
     AreAnswered taken old puts answers mid → lines_of names (puts ++ put ∷ []) (answers ++ answer ∷ []) ≡ lines_of names puts answers ++ line_of names put.name answer
 lines-push names [] [] taken old mid put answer are = append-nil (line_of names put.name answer)
 lines-push names [] (a ∷ answers) taken old mid put answer are = absurd are
@@ -60,31 +60,31 @@ zip-push R S (a ∷ xs) [] x y weaker all is = absurd all
 zip-push R S (a ∷ xs) (b ∷ ys) x y weaker all is = (weaker a b all.0, zip-push R S xs ys x y weaker all.1 is)
 
 -- what an answer does to the table
-pub record Goes (old new : TableObject) (put : FirstPut) (answer : Answer) : Type 0 where
+pub record Goes (old new : TableObject) (put : FirstPut) (answer : PutAnswer) : Type 0 where
   pub trees : KeepsTrees old new
-  pub holds : HoldsTree new put answer
+  pub holds : IsKeptTree new put answer
   pub sound : IsSound new
-  pub met : AreMet new
+  pub met : AreAllMet new
   pub limit : new.limit ≡ old.limit
 
-stayed : (old new : TableObject) (put : FirstPut) (answer : Answer) → IsSound old → AreMet old → new ≡ old → HoldsTree new put answer → Goes old new put answer
+stayed : (old new : TableObject) (put : FirstPut) (answer : PutAnswer) → IsSound old → AreAllMet old → new ≡ old → IsKeptTree new put answer → Goes old new put answer
 stayed old new put answer sound met same holds = record {
   trees = subst (λ (t : TableObject). KeepsTrees old t) (sym same) (λ h has. (has, λ path. refl));
   holds = holds;
   sound = subst IsSound (sym same) sound;
-  met = subst AreMet (sym same) met;
+  met = subst AreAllMet (sym same) met;
   limit = ap (λ (t : TableObject). t.limit) same;
 }
 
 -- a number has its tree in the table behind too
-holds-kept : (old new : TableObject) (put : FirstPut) (answer : Answer) → KeepsTrees old new → HoldsTree old put answer → HoldsTree new put answer
+holds-kept : (old new : TableObject) (put : FirstPut) (answer : PutAnswer) → KeepsTrees old new → IsKeptTree old put answer → IsKeptTree new put answer
 holds-kept old new put NameTaken keeps holds = tt
 holds-kept old new put NotGround keeps holds = tt
 holds-kept old new put (Kept h) keeps holds =
     let k = keeps h.0 holds.0 in
     (k.0, λ path. k.1 path ∙ holds.1 path)
 
-pub goes : (taken : List NameId) (old new : TableObject) (put : FirstPut) (answer : Answer) → IsSound old → AreMet old → IsAnswered taken old put answer new → Goes old new put answer
+pub goes : (taken : List NameId) (old new : TableObject) (put : FirstPut) (answer : PutAnswer) → IsSound old → AreAllMet old → IsAnswered taken old put answer new → Goes old new put answer
 goes taken old new put NameTaken sound met is = stayed old new put NameTaken sound met is.1 tt
 goes taken old new put NotGround sound met is = stayed old new put NotGround sound met is.2 tt
 goes taken old new put (Kept h) sound met is =
@@ -99,7 +99,7 @@ goes taken old new put (Kept h) sound met is =
     }
 
 -- a command more
-pub run-push : (names : List (List ℕ)) (begun : List ℕ) (puts : List FirstPut) (taken taken' : List NameId) (table table' : TableObject) (text text' : List ℕ) (put : FirstPut) (answer : Answer) →
+pub run-push : (names : List (List ℕ)) (begun : List ℕ) (puts : List FirstPut) (taken taken' : List NameId) (table table' : TableObject) (text text' : List ℕ) (put : FirstPut) (answer : PutAnswer) →
     HaveRun names begun puts taken table text → IsAnswered taken table put answer table' → taken' ≡ taken_with taken put.name answer →
     length table'.rows ≤ length table.rows + length put.graph → text' ≡ text ++ line_of names put.name answer →
     HaveRun names begun (puts ++ put ∷ []) taken' table' text'
@@ -113,7 +113,7 @@ run-push names begun puts taken taken' table table' text text' put answer have i
       taken_are = taken_is ∙ ap (λ ns. taken_with ns put.name answer) have.taken_are ∙ sym (taken-push puts have.answers [] (empty_table row_limit) table put answer are);
       lines = text_is ∙ ap (λ t. t ++ line_of names put.name answer) have.lines ∙ append_assoc begun (lines_of names puts have.answers) (line_of names put.name answer) ∙
           ap (λ l. begun ++ l) (sym (lines-push names puts have.answers [] (empty_table row_limit) table put answer are));
-      hold = zip-push (HoldsTree table) (HoldsTree table') puts have.answers put answer (λ p a. holds-kept table table' p a g.trees) have.hold g.holds;
+      hold = zip-push (IsKeptTree table) (IsKeptTree table') puts have.answers put answer (λ p a. holds-kept table table' p a g.trees) have.hold g.holds;
       sound = g.sound;
       met = g.met;
       size = omega (arith, size, have.size, nodes-push puts put);
@@ -129,7 +129,7 @@ run-start names text taken table taken_is table_is sound = record {
   lines = sym (append-nil text);
   hold = tt;
   sound = sound;
-  met = subst AreMet (sym table_is) (λ h has. absurd (let e : ◌≡◌ {A = Bool} false true = has in cc));
+  met = subst AreAllMet (sym table_is) (λ h has. absurd (let e : ◌≡◌ {A = Bool} false true = has in cc));
   size = subst (λ (t : TableObject). length t.rows ≤ 0) (sym table_is) (omega arith);
   limit = ap (λ (t : TableObject). t.limit) table_is;
 }
@@ -141,7 +141,7 @@ room_at (p ∷ puts) zero put lt is = omega (arith, ap (λ (q : FirstPut). lengt
 room_at (p ∷ puts) (suc i) put lt is = omega (arith, room_at puts i put (omega (arith, lt)) is)
 
 -- the closing line of a table without a row to sweep
-pub closing-met : (t : TableObject) → IsSound t → AreMet t → closing_line t ≡ counts_line 0 (length t.rows) (length t.pins)
+pub closing-met : (t : TableObject) → IsSound t → AreAllMet t → closing_line t ≡ counts_line 0 (length t.rows) (length t.pins)
 closing-met t sound met =
     let e : sweep t ≡ t = sweep_keeps_met t sound met in
     let gone : swept t ≡ 0 = omega (arith, ap (λ (s : TableObject). length s.rows) e) in

@@ -4,7 +4,7 @@ use Rattle.mars_tree.specs.declared.label.NameId.{NameId}
 use Rattle.mars_read.specs.declared.first.FirstPut.{FirstPut}
 
 -- the root is a node, and the name is listed
-pub record IsReady (names : List (List ℕ)) (put : FirstPut) : Type 0 where
+pub record IsPutReady (names : List (List ℕ)) (put : FirstPut) : Type 0 where
   pub root : put.root < length put.graph
   pub name : put.name.0 < length names
 

@@ -7,24 +7,24 @@ use Rattle.mars_read.specs.declared.first.FirstPut.{FirstPut}
 use Rattle.mars_table.specs.Object.{TableObject, empty_table}
 use Rattle.mars_reach.specs.Reach.{ReachesFree, ReachesNoFree}
 use Rattle.mars_table.specs.TreeGraph.{InternsTo}
-use Rattle.marseille.specs.declared.run.Answer.{Answer}
-use Rattle.marseille.specs.declared.run.Answer.TheVariants.{NameTaken, NotGround, Kept}
+use Rattle.marseille.specs.declared.run.PutAnswer.{PutAnswer}
+use Rattle.marseille.specs.declared.run.PutAnswer.TheVariants.{NameTaken, NotGround, Kept}
 use Rattle.marseille.specs.Text.{text_of}
 
 -- what a command answers, by the names that are taken and the table, and the table behind it
-abbrev pub IsAnswered : List NameId → TableObject → FirstPut → Answer → TableObject → Type 0
+abbrev pub IsAnswered : List NameId → TableObject → FirstPut → PutAnswer → TableObject → Type 0
 IsAnswered taken old put NameTaken new = Contains taken put.name × (new ≡ old)
 IsAnswered taken old put NotGround new = (Contains taken put.name → ⊥) × ReachesFree put.graph put.root × (new ≡ old)
 IsAnswered taken old put (Kept h) new = (Contains taken put.name → ⊥) × ReachesNoFree put.graph put.root × InternsTo old 0 put.graph put.root h.0 new
 
 -- the names that are taken behind a command: its own too, where its tree is kept
-abbrev pub taken_with : List NameId → NameId → Answer → List NameId
+abbrev pub taken_with : List NameId → NameId → PutAnswer → List NameId
 taken_with taken name NameTaken = taken
 taken_with taken name NotGround = taken
 taken_with taken name (Kept h) = taken ++ name ∷ []
 
 -- the answers of commands in turn, and the table at their end
-abbrev pub AreAnswered : List NameId → TableObject → List FirstPut → List Answer → TableObject → Type 0
+abbrev pub AreAnswered : List NameId → TableObject → List FirstPut → List PutAnswer → TableObject → Type 0
 AreAnswered taken old [] [] new = new ≡ old
 AreAnswered taken old [] (answer ∷ answers) new = ⊥
 AreAnswered taken old (put ∷ puts) [] new = ⊥
@@ -32,7 +32,7 @@ AreAnswered taken old (put ∷ puts) (answer ∷ answers) new =
     (mid : TableObject) × IsAnswered taken old put answer mid × AreAnswered (taken_with taken put.name answer) mid puts answers new
 
 -- two commands printed one number exactly where their trees agree along every path
-abbrev pub OneNumberATree : List FirstPut → List Answer → Type 0
+abbrev pub OneNumberATree : List FirstPut → List PutAnswer → Type 0
 OneNumberATree puts answers =
     (i j : ℕ) (put other : FirstPut) (h k : ℕ) → slice_get puts i ≡ Some put → slice_get puts j ≡ Some other →
     slice_get answers i ≡ Some (Kept (record { 0 = h })) → slice_get answers j ≡ Some (Kept (record { 0 = k })) →
@@ -44,7 +44,7 @@ row_limit = 1048576
 
 -- the run of a text: its answers from the empty table, the numbers as said, and the lines
 pub record IsRun (first : First) (text : List ℕ) : Type 0 where
-  pub answers : List Answer
+  pub answers : List PutAnswer
   pub table : TableObject
   pub answered : AreAnswered [] (empty_table row_limit) first.puts answers table
   pub numbers : OneNumberATree first.puts answers

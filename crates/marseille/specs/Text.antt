@@ -4,8 +4,8 @@ use Rattle.mars_tree.specs.declared.label.NameId.{NameId}
 use Rattle.mars_read.specs.declared.first.First.{First}
 use Rattle.mars_read.specs.declared.first.FirstPut.{FirstPut}
 use Rattle.mars_table.specs.Object.{TableObject, sweep, swept, count}
-use Rattle.marseille.specs.declared.run.Answer.{Answer}
-use Rattle.marseille.specs.declared.run.Answer.TheVariants.{NameTaken, NotGround, Kept}
+use Rattle.marseille.specs.declared.run.PutAnswer.{PutAnswer}
+use Rattle.marseille.specs.declared.run.PutAnswer.TheVariants.{NameTaken, NotGround, Kept}
 
 -- the spelling of a name
 abbrev pub spelling : List (List ℕ) → NameId → List ℕ
@@ -17,13 +17,13 @@ session_line names None = []
 session_line names (Some id) = codes "session " ++ spelling names id ++ codes "\n"
 
 -- the line of a command that gives a name
-abbrev pub line_of : List (List ℕ) → NameId → Answer → List ℕ
+abbrev pub line_of : List (List ℕ) → NameId → PutAnswer → List ℕ
 line_of names name NameTaken = codes "name taken\n"
 line_of names name NotGround = codes "not ground\n"
 line_of names name (Kept h) = codes "kept " ++ spelling names name ++ codes " #" ++ decimal h.0 ++ codes "\n"
 
 -- the lines of commands
-abbrev pub lines_of : List (List ℕ) → List FirstPut → List Answer → List ℕ
+abbrev pub lines_of : List (List ℕ) → List FirstPut → List PutAnswer → List ℕ
 lines_of names [] answers = []
 lines_of names (put ∷ puts) [] = []
 lines_of names (put ∷ puts) (answer ∷ answers) = line_of names put.name answer ++ lines_of names puts answers
@@ -37,5 +37,5 @@ abbrev pub closing_line : TableObject → List ℕ
 closing_line table = counts_line (swept table) (count (sweep table)).0 (count (sweep table)).1
 
 -- the whole text of a run
-abbrev pub text_of : First → List Answer → TableObject → List ℕ
+abbrev pub text_of : First → List PutAnswer → TableObject → List ℕ
 text_of first answers table = session_line first.names first.session ++ lines_of first.names first.puts answers ++ closing_line table

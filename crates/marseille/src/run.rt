@@ -6,7 +6,7 @@ ghost use Rattle.mars_read.specs.First.{nodes_in};
 ghost use Rattle.marseille.specs.Run.{IsAnswered, taken_with, IsRun, row_limit};
 ghost use Rattle.marseille.specs.Runs.{HaveRun};
 ghost use Rattle.marseille.specs.Text.{session_line};
-ghost use Rattle.marseille.specs.Ready.{IsReady, IsListed};
+ghost use Rattle.marseille.specs.Ready.{IsPutReady, IsListed};
 
 use crate::text::{push_answer, push_counts, push_session};
 use mars_base::NoMemory;
@@ -21,7 +21,7 @@ const ROW_LIMIT: u64 = 1_048_576;
 
 /// What a command answers.
 #[derive(Clone, Copy, Debug, PartialEq, Eq)]
-pub enum Answer {
+pub enum PutAnswer {
     /// The name was given before.
     NameTaken,
     /// The tree has a free leaf.
@@ -38,7 +38,7 @@ struct Session {
 }
 
 /// Runs one command.
-fn run_put(alloc: Global, session: &mut Session, put: &FirstPut) -> Result<Answer, NoMemory>
+fn run_put(alloc: Global, session: &mut Session, put: &FirstPut) -> Result<PutAnswer, NoMemory>
     requires root { put.now.root < length put.now.graph }
     requires room { length session.old.table.rows + length put.now.graph ≤ session.old.table.limit }
     requires sound { IsSound session.old.table }
@@ -51,14 +51,14 @@ fn run_put(alloc: Global, session: &mut Session, put: &FirstPut) -> Result<Answe
         (length session.new.table.rows ≤ length session.old.table.rows + length put.now.graph) }
 {
     if session.taken.contains(&put.name) {
-        return Ok(Answer::NameTaken);
+        return Ok(PutAnswer::NameTaken);
     }
     if reaches_free(alloc, &put.graph, put.root)? {
-        return Ok(Answer::NotGround);
+        return Ok(PutAnswer::NotGround);
     }
     let handle = session.table.intern(0, &put.graph, put.root)?;
     session.taken.push(put.name)?;
-    Ok(Answer::Kept(handle))
+    Ok(PutAnswer::Kept(handle))
 }
 
 /// Runs commands, and writes their lines.
@@ -69,7 +69,7 @@ fn run_puts(
     puts: &[FirstPut],
     text: &mut Vec<u8>,
 ) -> Result<(), NoMemory>
-    requires ready { All (IsReady names.now) puts.now }
+    requires ready { All (IsPutReady names.now) puts.now }
     requires table { session.old.table ≡ empty_table row_limit }
     requires taken { session.old.taken.items ≡ [] }
     requires sound { IsSound session.old.table }
@@ -98,7 +98,7 @@ fn opening(alloc: Global, names: &Names, session: Option<NameId>) -> Result<Vec<
 
 /// The text of the run of a session's commands.
 pub(crate) fn run(alloc: Global, first: &First) -> Result<Vec<u8>, NoMemory>
-    requires ready { All (IsReady first.now.names) first.now.puts }
+    requires ready { All (IsPutReady first.now.names) first.now.puts }
     requires listed { IsListed first.now.names first.now.session }
     requires room { nodes_in first.now.puts ≤ row_limit }
     ensures { IfOk result (λ text. IsRun first.now text.items) }

@@ -3,7 +3,7 @@ ghost use Rattle.std.specs.Prelude.{◌≡◌, ◌++◌, ◌<◌, length, OnOk};
 ghost use Rattle.mars_table.specs.Object.{TableObject, sweep, swept, count};
 ghost use Rattle.marseille.specs.Text.{session_line, line_of, closing_line, counts_line};
 
-use crate::run::Answer;
+use crate::run::PutAnswer;
 use itoa::Buffer;
 use mars_base::NoMemory;
 use mars_tree::{NameId, Names};
@@ -28,15 +28,15 @@ pub(crate) fn push_answer(
     text: &mut Vec<u8>,
     names: &Names,
     name: NameId,
-    answer: Answer,
+    answer: PutAnswer,
 ) -> Result<(), NoMemory>
     requires { name.0 < length names.now }
     ensures { OnOk result (text.new.items ≡ text.old.items ++ line_of names.now name answer) }
 {
     match answer {
-        Answer::NameTaken => text.extend_from_slice(b"name taken\n")?,
-        Answer::NotGround => text.extend_from_slice(b"not ground\n")?,
-        Answer::Kept(handle) => {
+        PutAnswer::NameTaken => text.extend_from_slice(b"name taken\n")?,
+        PutAnswer::NotGround => text.extend_from_slice(b"not ground\n")?,
+        PutAnswer::Kept(handle) => {
             let mut buffer = Buffer::new();
             text.extend_from_slice(b"kept ")?;
             text.extend_from_slice(names.text(name))?;

@@ -1,6 +1,6 @@
 use Rattle.std.proofs.Common.{◌≡◌, ℕ, List, subst}
 use Rattle.mars_read.specs.Token.{Token}
-use Rattle.mars_read.specs.Built.{Built, nothing}
+use Rattle.mars_read.specs.Built.{Built, empty_built}
 use Rattle.mars_read.specs.Reading.{view, ReadsTerm}
 use Rattle.std.proofs.lemmas.Result.{err_from_is_err_and}
 use Rattle.mars_read.proofs.Refused.{on-form, no-put-name}
@@ -18,7 +18,7 @@ returns-in_err-node-clause-refused c =
     rw (p.1, p.2) (on-form c.in_err-node.field-0.0 (put-without c.in_ok-text.text.now c.in_ok-text.ensures.taken) c.in_err-node.ensures.refused)
 
 -- the TERM was read by a new builder
-anew : {tokens after : List Token} {names known : List (List ℕ)} {b c : Built} {node : ℕ} → b ≡ nothing → ReadsTerm (view tokens names b) (view after known c) node → ReadsTerm (view tokens names nothing) (view after known c) node
+anew : {tokens after : List Token} {names known : List (List ℕ)} {b c : Built} {node : ℕ} → b ≡ empty_built → ReadsTerm (view tokens names b) (view after known c) node → ReadsTerm (view tokens names empty_built) (view after known c) node
 anew {tokens} {after} {names} {known} {c = c} {node} e read = subst (λ (b : Built). ReadsTerm (view tokens names b) (view after known c) node) e read
 
 pub read_rest-requires-clause-none : goal.read_rest-requires-clause-none

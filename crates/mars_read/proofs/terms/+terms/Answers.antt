@@ -2,7 +2,7 @@ use Rattle.std.proofs.Common.{◌≡◌, ℕ, List, ◌∷◌, ◌∙◌, arith,
 use Rattle.std.proofs.lemmas.Result.{IfOk-weaker, IfErr-weaker}
 use Rattle.mars_read.specs.declared.token.Kind.{Kind}
 use Rattle.mars_read.specs.declared.token.Kind.TheVariants as kind
-use Rattle.mars_read.specs.Seen.{named}
+use Rattle.mars_read.specs.Seen.{token_named}
 use Rattle.mars_read.specs.Token.{Token}
 use Rattle.mars_read.proofs.Refused.{on-form, no-term, term-ended}
 use Rattle.mars_read.proofs.Rows.{term-variable, term-named, term-refused, name-known, named-alone, named-row, named-refused, row-begins, row-more, row-over, row-unclosed, row-closed}
@@ -40,8 +40,8 @@ read_row-returns-then-len-ge-MOST_ARGUMENTS-clause-refused t c =
 
 pub read_row-returns-then-not-takes-clause-read : goal.read_row-returns-then-not-takes-clause-read
 read_row-returns-then-not-takes-clause-read t c = IfOk-weaker c.close_row.result _ _
-    (λ node closes f named. row-closed _ _ _ c.loop-kids.kids.items c.in_ok-kid.kid c.loop-kids.invariant c.in_ok-kid.ensures.read f c.args.name c.takes.new.self c.close_row.new.tokens c.close_row.new.builder node
-    c.if-not-takes.ensures.left named (rw (c.deref.ensures.value, c.in_ok-push.ensures.items) at closes))
+    (λ node closes f token_named. row-closed _ _ _ c.loop-kids.kids.items c.in_ok-kid.kid c.loop-kids.invariant c.in_ok-kid.ensures.read f c.args.name c.takes.new.self c.close_row.new.tokens c.close_row.new.builder node
+    c.if-not-takes.ensures.left token_named (rw (c.deref.ensures.value, c.in_ok-push.ensures.items) at closes))
     c.close_row.ensures.closed
 
 pub read_row-returns-then-not-takes-clause-refused : goal.read_row-returns-then-not-takes-clause-refused
@@ -51,8 +51,8 @@ read_row-returns-then-not-takes-clause-refused t c = IfErr-weaker c.close_row.re
     c.close_row.ensures.refused
 
 -- the token that came next, once its kind is known
-is-next : {tokens : List Token} (next other : Kind) (text : List ℕ) (rest : List Token) → tokens ≡ named next text ∷ rest → next ≡ other → tokens ≡ named other text ∷ rest
-is-next next other text rest e same = e ∙ ap (λ k. named k text ∷ rest) same
+is-next : {tokens : List Token} (next other : Kind) (text : List ℕ) (rest : List Token) → tokens ≡ token_named next text ∷ rest → next ≡ other → tokens ≡ token_named other text ∷ rest
+is-next next other text rest e same = e ∙ ap (λ k. token_named k text ∷ rest) same
 
 pub read_term-returns-in_ok-variable-in-Variable-clause-read : goal.read_term-returns-in_ok-variable-in-Variable-clause-read
 read_term-returns-in_ok-variable-in-Variable-clause-read t c =

@@ -1,13 +1,13 @@
 use Rattle.std.proofs.Common.{◌≡◌, ◌++◌, ◌∷◌, [], ℕ, true, ap, ◌∙◌, arith, rules}
-use Rattle.mars_refine.specs.declared.marks.Shown.{Shown}
+use Rattle.mars_refine.specs.declared.marks.NodeLabel.{NodeLabel}
 use Rattle.mars_refine.specs.contracts.marks.ShownPartialEq.TheImpl.{eq-value}
 use Rattle.mars_refine.proofs.Numbers.{numbered_more, numbered_done}
 use Rattle.mars_refine.proofs.marks.numbers.Goals as goal
 
-own : (a : Shown) → eq-value.it a a ≡ true
+own : (a : NodeLabel) → eq-value.it a a ≡ true
 own a = search rules
 
-same : (a b : Shown) → eq-value.it a b ≡ true → a ≡ b
+same : (a b : NodeLabel) → eq-value.it a b ≡ true → a ≡ b
 same a b e = search rules
 
 pub loop-node-preserved : goal.loop-node-preserved
