@@ -59,9 +59,9 @@ fn from_place(bytes: &[u8], at: usize) -> &[u8]
 }
 
 /// How many brackets are open behind a token, where `depth` are in front of it.
-fn open_after(depth: u32, kind: Kind) -> u32
+fn opened(depth: u32, kind: Kind) -> u32
     requires { depth ≤ 200 }
-    ensures open_after { (text : List ℕ) → result ≡ open_after depth (token_named kind text) }
+    ensures opened { (text : List ℕ) → result ≡ open_after depth (token_named kind text) }
     ensures within { result ≤ 201 }
 {
     match kind {
@@ -115,7 +115,7 @@ pub(crate) fn lex(alloc: Global, bytes: &[u8]) -> Result<Option<Vec<Token>>, NoM
         let Some(token) = next_token(bytes, start) else {
             return Ok(None);
         };
-        depth = open_after(depth, token.kind);
+        depth = opened(depth, token.kind);
         if depth > DEEPEST {
             return Ok(None);
         }
