@@ -5,7 +5,10 @@ ghost use Rattle.mars_tree.specs.Graph.{IsGraph, label_of, kids_of, with_kid, la
 ghost use Rattle.mars_tree.specs.Stored.{kid_count, starts_from, nodes_of};
 
 mod equality;
+mod flat;
+mod growing;
 
+use crate::graph::flat::push_starts;
 use crate::label::{Label, kid_places};
 use mars_base::NoMemory;
 use std::alloc::Global;
@@ -55,7 +58,8 @@ impl Graph {
         requires in_range { All (λ kid. kid < length labels.items) kids.items }
         ensures { IfOk result (λ g. g ≡ nodes_of labels.items kids.items) }
     {
-        let starts = starts_of(alloc, &labels, kids.len())?;
+        let mut starts = Vec::new(alloc);
+        push_starts(&labels, 0, &mut starts)?;
         Ok(Graph {
             labels,
             starts,
@@ -146,20 +150,6 @@ impl Graph {
     {
         part(&self.kids, self.starts[node], self.arity(node))
     }
-}
-
-/// Where the kids of each label begin, of so many kids.
-fn starts_of(alloc: Global, labels: &[Option<Label>], size: usize) -> Result<Vec<usize>, NoMemory>
-    requires { size ≡ kid_count labels.now }
-    ensures { IfOk result (λ starts. starts.items ≡ starts_from 0 labels.now) }
-{
-    let mut starts = Vec::with_capacity(alloc, labels.len())?;
-    let mut start = 0;
-    for k in 0..labels.len() {
-        starts.push_reserved(start);
-        start += kid_places(labels[k]);
-    }
-    Ok(starts)
 }
 
 /// As many numbers as are asked for, from a place on.

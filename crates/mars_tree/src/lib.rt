@@ -5,6 +5,7 @@ mod graph;
 mod label;
 mod laws;
 mod names;
+mod numbers;
 mod pairs;
 mod sameness;
 
@@ -12,6 +13,7 @@ pub use graph::Graph;
 pub use label::{Label, NameId};
 pub use laws::{examples, one_canonical_graph, one_canonical_ground_graph, short_paths_decide};
 pub use names::Names;
+pub use numbers::{NewNumbers, NodeNumber, push_numbers};
 pub use sameness::same;
 
 #[cfg(test)]
