@@ -1,6 +1,6 @@
 use Rattle.std.proofs.Common.{◌≡◌, ◌++◌, ◌∷◌, [], ℕ, true, ap, ◌∙◌, arith, rules}
 use Rattle.mars_refine.specs.declared.marks.NodeLabel.{NodeLabel}
-use Rattle.mars_refine.specs.contracts.marks.ShownPartialEq.TheImpl.{eq-value}
+use Rattle.mars_refine.specs.contracts.marks.NodeLabelPartialEq.TheImpl.{eq-value}
 use Rattle.mars_refine.proofs.Numbers.{numbered_more, numbered_done}
 use Rattle.mars_refine.proofs.marks.numbers.Goals as goal
 

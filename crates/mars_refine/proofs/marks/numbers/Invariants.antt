@@ -1,4 +1,4 @@
-use Rattle.mars_refine.specs.contracts.marks.ShownPartialEq.TheImpl.{eq-value}
+use Rattle.mars_refine.specs.contracts.marks.NodeLabelPartialEq.TheImpl.{eq-value}
 use Rattle.mars_refine.proofs.Numbers.{IsNumbered}
 use Rattle.mars_refine.proofs.marks.numbers.Given as goal
 
