@@ -5,7 +5,7 @@ use Rattle.std.proofs.lemmas.List.{get_or_read}
 use Rattle.mars_refine.specs.declared.classes.Span.{Span}
 use Rattle.mars_refine.specs.Refine.{class_of}
 use Rattle.mars_refine.specs.Classes.{is_marked, IsAlone}
-use Rattle.mars_refine.specs.ClassesInside.{at_place, span_of, IsOrder, AreLaidClasses}
+use Rattle.mars_refine.specs.ClassesInside.{at_place, span_of, IsOrder, HasSpans}
 use Rattle.mars_refine.proofs.Writing.{set_cases}
 
 abbrev pub no_span : Span
@@ -90,11 +90,11 @@ is_false : (b : Bool) → (b ≡ true → ⊥) → b ≡ false
 is_false true h = absurd (h refl)
 is_false false h = refl
 
-module _ (of order place : List ℕ) (spans : List Span) (marked : List Bool) (is : AreLaidClasses of order place spans marked) where
+module _ (of order place : List ℕ) (spans : List Span) (marked : List Bool) (is : HasSpans of order place spans marked) where
   -- a node that is not marked moves to the middle of its class and is marked
   pub move_keeps : (node : ℕ) → node < length of → is_marked marked node ≡ false →
       let c = class_of of node in let s = span_of spans c in let at = at_place place node in let other = at_place order s.middle in
-      AreLaidClasses of (set (set order at other) s.middle node) (set (set place other at) node s.middle) (set spans c (record s { middle = s.middle + 1 })) (set marked node true)
+      HasSpans of (set (set order at other) s.middle node) (set (set place other at) node s.middle) (set spans c (record s { middle = s.middle + 1 })) (set marked node true)
   move_keeps node node_in free =
       let c = class_of of node in
       let s = span_of spans c in
@@ -286,7 +286,7 @@ module _ (of order place : List ℕ) (spans : List Span) (marked : List Bool) (i
     room_behind le = omega (arith, at_read, ap (λ (x : Span). x.end) (span_reads node class span node_in class_is span_is), is.to_end node node_in)
 
     pub move_reads : (other : ℕ) (next : Span) → span.middle ≤ at → other ≡ get_or order span.middle other → next ≡ record { start = span.start; middle = span.middle + 1; end = span.end } →
-        AreLaidClasses of (set (set order at other) span.middle node) (set (set place other at) node span.middle) (set spans class next) (set marked node true)
+        HasSpans of (set (set order at other) span.middle node) (set (set place other at) node span.middle) (set spans class next) (set marked node true)
     move_reads other next le other_is next_is =
         let e1 : class ≡ class_of of node = get_or_read of node class node_in class_is 0 in
         let e2 : span ≡ span_of spans (class_of of node) = span_reads node class span node_in class_is span_is in
@@ -295,11 +295,11 @@ module _ (of order place : List ℕ) (spans : List Span) (marked : List Bool) (i
         let e5 : other ≡ at_place order span.middle = get_or_read order span.middle other m_in other_is 0 in
         let e6 : span.middle ≡ (span_of spans (class_of of node)).middle = ap (λ (x : Span). x.middle) e2 in
         let whole = move_keeps node node_in (free_behind le) in
-        let P : (c a o : ℕ) (m : ℕ) (g : Span) → Type 0 = λ c a o m g. AreLaidClasses of (set (set order a o) m node) (set (set place o a) node m) (set spans c (record { start = g.start; middle = m + 1; end = g.end })) (set marked node true) in
+        let P : (c a o : ℕ) (m : ℕ) (g : Span) → Type 0 = λ c a o m g. HasSpans of (set (set order a o) m node) (set (set place o a) node m) (set spans c (record { start = g.start; middle = m + 1; end = g.end })) (set marked node true) in
         let s = span_of spans (class_of of node) in
         let w1 : P (class_of of node) (at_place place node) (at_place order s.middle) s.middle s = whole in
         let w2 : P class at (at_place order s.middle) s.middle s = subst (λ (c : ℕ). P c at (at_place order s.middle) s.middle s) (sym e1) (subst (λ (a : ℕ). P (class_of of node) a (at_place order s.middle) s.middle s) (sym e4) w1) in
         let w3 : P class at (at_place order span.middle) span.middle s = subst (λ (m : ℕ). P class at (at_place order m) m s) (sym e6) w2 in
         let w4 : P class at other span.middle s = subst (λ (o : ℕ). P class at o span.middle s) (sym e5) w3 in
         let w5 : P class at other span.middle span = subst (λ (g : Span). P class at other span.middle g) (sym e2) w4 in
-        subst (λ (s : Span). AreLaidClasses of (set (set order at other) span.middle node) (set (set place other at) node span.middle) (set spans class s) (set marked node true)) (sym next_is) w5
+        subst (λ (s : Span). HasSpans of (set (set order at other) span.middle node) (set (set place other at) node span.middle) (set spans class s) (set marked node true)) (sym next_is) w5

@@ -9,7 +9,7 @@ use Rattle.mars_refine.specs.Classes.{is_marked, AreEachOnce, AreMembers}
 use Rattle.std.proofs.Common.{Some, slice_get}
 use Rattle.std.proofs.lemmas.Option.{slice_get_within, get_or_from_slice_get}
 use Rattle.mars_refine.specs.Writes.{put_all}
-use Rattle.mars_refine.specs.ClassesInside.{at_place, span_of, IsOrder, AreLaidClasses, SplitsOne}
+use Rattle.mars_refine.specs.ClassesInside.{at_place, span_of, IsOrder, HasSpans, SplitsOne}
 use Rattle.mars_refine.proofs.Moving.{no_span}
 use Rattle.mars_refine.proofs.Writing.{set_cases, true_or_false, length-put_all, put_all-there, put_all-other}
 
@@ -78,7 +78,7 @@ from_part xs a b u le (k, within, here) =
     get_or_default xs (a + k) 0 u (omega arith) ∙ sym (get_or-drop a xs k u) ∙ sym (get_or-take (b - a) (drop a xs) k u k_lt) ∙ here in
     (a + k, (omega arith, omega arith, e))
 
-module _ (of order place : List ℕ) (spans : List Span) (marked : List Bool) (is : AreLaidClasses of order place spans marked) where
+module _ (of order place : List ℕ) (spans : List Span) (marked : List Bool) (is : HasSpans of order place spans marked) where
   -- a value written at the nodes of a part of the order
   pub put_part : {X : Type 0} (xs : List X) (a b u : ℕ) (v d : X) → length xs ≡ length of → b ≤ length of → u < length of →
       ((a ≤ at_place place u) × (at_place place u < b) × (get_or (put_all xs (take (b - a) (drop a order)) v) u d ≡ v))
@@ -193,7 +193,7 @@ module _ (of order place : List ℕ) (spans : List Span) (marked : List Bool) (i
       ]
     ]
 
-    pub split_keeps : AreLaidClasses new_of order place new_spans new_marked
+    pub split_keeps : HasSpans new_of order place new_spans new_marked
     split_keeps =
         let size : length new_of ≡ length of = length-put_all of (take (less.end - less.start) (drop less.start order)) (length spans) in
         record {
@@ -440,7 +440,7 @@ module _ (of order place : List ℕ) (spans : List Span) (marked : List Bool) (i
           ]
         ]
 
-    pub unmark_keeps : AreLaidClasses of order place kept_spans kept_marked
+    pub unmark_keeps : HasSpans of order place kept_spans kept_marked
     unmark_keeps =
         let size : length kept_spans ≡ length spans = length-set spans class (record { start = here.start; middle = here.start; end = here.end }) in
         record {
@@ -549,12 +549,12 @@ abbrev back_of : Span → Span
 back_of s = record { start = s.middle; middle = s.middle; end = s.end }
 
 -- what is written where a class is parted
-pub part_done : (of order place : List ℕ) (spans : List Span) (marked : List Bool) → AreLaidClasses of order place spans marked →
+pub part_done : (of order place : List ℕ) (spans : List Span) (marked : List Bool) → HasSpans of order place spans marked →
     (class n : ℕ) (s : Span) (pair : Span × Span) (spans1 : List Span) (o1 xs1 of1 o2 xs2 : List ℕ) (marked1 : List Bool) →
     class < length spans → s ≡ get_or spans class s → (span_of spans class).start < (span_of spans class).middle → (span_of spans class).middle < (span_of spans class).end →
     ((pair ≡ (front_of s, back_of s)) ⊎ (pair ≡ (back_of s, front_of s))) → spans1 ≡ spans ++ pair.0 ∷ [] → n ≡ length spans →
     o1 ≡ order → xs1 ≡ take (pair.0.end - pair.0.start) (drop pair.0.start o1) → of1 ≡ put_all of xs1 n → o2 ≡ order → xs2 ≡ take (s.middle - s.start) (drop s.start o2) → marked1 ≡ put_all marked xs2 false →
-    AreLaidClasses of1 order place (set spans1 class pair.1) marked1 × SplitsOne class (record { of = of; count = length spans; marked = marked }) (record { of = of1; count = length (set spans1 class pair.1); marked = marked1 })
+    HasSpans of1 order place (set spans1 class pair.1) marked1 × SplitsOne class (record { of = of; count = length spans; marked = marked }) (record { of = of1; count = length (set spans1 class pair.1); marked = marked1 })
 part_done of order place spans marked is class n s pair spans1 o1 xs1 of1 o2 xs2 marked1 class_in read lo hi choice spans_is n_is o1_is xs1_is of_is o2_is xs2_is marked_is =
     let S = span_of spans class in
     let e : s ≡ S = get_or_read spans class s class_in read no_span in
@@ -577,24 +577,24 @@ part_done of order place spans marked is class n s pair spans1 o1 xs1 of1 o2 xs2
       splits_one of order place spans marked is class less more class_in fits.0 fits.1 fits.2,
     )
 
-pub unmark_done : (of order place : List ℕ) (spans : List Span) (marked : List Bool) → AreLaidClasses of order place spans marked →
+pub unmark_done : (of order place : List ℕ) (spans : List Span) (marked : List Bool) → HasSpans of order place spans marked →
     (class : ℕ) (s : Span) (o2 xs2 : List ℕ) (marked1 : List Bool) → class < length spans → s ≡ get_or spans class s →
     ((span_of spans class).middle ≤ (span_of spans class).start) ⊎ ((span_of spans class).end ≤ (span_of spans class).middle) →
     o2 ≡ order → xs2 ≡ take (s.middle - s.start) (drop s.start o2) → marked1 ≡ put_all marked xs2 false →
-    AreLaidClasses of order place (set spans class (record { start = s.start; middle = s.start; end = s.end })) marked1 × SplitsOne class (record { of = of; count = length spans; marked = marked }) (record { of = of; count = length (set spans class (record { start = s.start; middle = s.start; end = s.end })); marked = marked1 })
+    HasSpans of order place (set spans class (record { start = s.start; middle = s.start; end = s.end })) marked1 × SplitsOne class (record { of = of; count = length spans; marked = marked }) (record { of = of; count = length (set spans class (record { start = s.start; middle = s.start; end = s.end })); marked = marked1 })
 unmark_done of order place spans marked is class s o2 xs2 marked1 class_in read whole o2_is xs2_is marked_is =
     let S = span_of spans class in
     let e : s ≡ S = get_or_read spans class s class_in read no_span in
     let marked1_is : marked1 ≡ put_all marked (take (S.middle - S.start) (drop S.start order)) false =
     marked_is ∙ ap (λ xs. put_all marked xs false) (part_read order o2 xs2 s.start s.middle S.start S.middle o2_is xs2_is (ap (λ (x : Span). x.start) e) (ap (λ (x : Span). x.middle) e)) in
-    let Goal : Span → List Bool → Type 0 = λ t m. AreLaidClasses of order place (set spans class (record { start = t.start; middle = t.start; end = t.end })) m × SplitsOne class (record { of = of; count = length spans; marked = marked }) (record { of = of; count = length (set spans class (record { start = t.start; middle = t.start; end = t.end })); marked = m }) in
+    let Goal : Span → List Bool → Type 0 = λ t m. HasSpans of order place (set spans class (record { start = t.start; middle = t.start; end = t.end })) m × SplitsOne class (record { of = of; count = length spans; marked = marked }) (record { of = of; count = length (set spans class (record { start = t.start; middle = t.start; end = t.end })); marked = m }) in
     let done : Goal S (put_all marked (take (S.middle - S.start) (drop S.start order)) false) = (unmark_keeps of order place spans marked is class class_in whole, unmarks_one of order place spans marked is class class_in whole) in
     subst (λ (t : Span). Goal t marked1) (sym e) (subst (λ (m : List Bool). Goal S m) (sym marked1_is) done)
 
 -- all nodes in one class
 pub one_class : (count : ℕ) (of order place : List ℕ) (spans : List Span) (marked : List Bool) → of ≡ replicate count 0 → marked ≡ replicate count false →
     ((i : ℕ) → i < count → at_place order i ≡ i) → length order ≡ count → ((i : ℕ) → i < count → at_place place i ≡ i) → length place ≡ count →
-    ((0 < count) × (spans ≡ record { start = 0; middle = 0; end = count } ∷ [])) ⊎ ((count ≡ 0) × (spans ≡ [])) → AreLaidClasses of order place spans marked
+    ((0 < count) × (spans ≡ record { start = 0; middle = 0; end = count } ∷ [])) ⊎ ((count ≡ 0) × (spans ≡ [])) → HasSpans of order place spans marked
 one_class count of order place spans marked of_is marked_is order_is order_size place_is place_size (inr (none, spans_is)) =
     let size : length of ≡ count = ap length of_is ∙ length-replicate count 0 in
     let empty : length spans ≡ 0 = ap length spans_is in

@@ -5,7 +5,7 @@ use Rattle.std.proofs.lemmas.List.Elements.{Contains-append_left, Contains-push,
 use Rattle.mars_refine.specs.declared.classes.Span.{Span}
 use Rattle.mars_refine.specs.Refine.{class_of}
 use Rattle.mars_refine.specs.Classes.{Parted, IsSplit, is_marked}
-use Rattle.mars_refine.specs.ClassesInside.{at_place, span_of, AreLaidClasses, AreTouched, SplitsOne, SplitsEach}
+use Rattle.mars_refine.specs.ClassesInside.{at_place, span_of, HasSpans, AreTouched, SplitsOne, SplitsEach}
 use Rattle.mars_refine.proofs.Writing.{set_cases, true_or_false}
 
 not_either : (y : ℕ) (xs : List ℕ) (x : ℕ) → (y ≡ x → ⊥) → (Contains xs x → ⊥) → Contains (y ∷ xs) x → ⊥
@@ -134,7 +134,7 @@ split_all touched old now t s =
       ];
     }
 
-module _ (of order place : List ℕ) (spans : List Span) (marked : List Bool) (is : AreLaidClasses of order place spans marked) where
+module _ (of order place : List ℕ) (spans : List Span) (marked : List Bool) (is : HasSpans of order place spans marked) where
   -- the class of the first marked node of a class is in the list
   pub touched_before : (touched : List ℕ) (class : ℕ) → class < length spans → AreTouched (record { of = of; count = length spans; marked = marked }) touched → (span_of spans class).start ≢ (span_of spans class).middle → Contains touched class
   touched_before touched class class_in t apart =

@@ -24,7 +24,7 @@ pub record IsOrder (size : ℕ) (order place : List ℕ) : Type 0 where
   pub back : (i : ℕ) → i < size → at_place place (at_place order i) ≡ i
 
 -- the nodes of a class stand from its start to its end, the marked ones before its middle
-pub record AreLaidClasses (of order place : List ℕ) (spans : List Span) (marked : List Bool) : Type 0 where
+pub record HasSpans (of order place : List ℕ) (spans : List Span) (marked : List Bool) : Type 0 where
   pub ordered : IsOrder (length of) order place
   pub marks_size : length marked ≡ length of
   pub of_in : (u : ℕ) → u < length of → class_of of u < length spans
@@ -44,7 +44,7 @@ marks_of of place spans = map (λ u. ltb (at_place place u) (span_of spans (clas
 
 -- the fields of `Parts` are laid out so
 abbrev pub IsPartedInside : Parts → Type 0
-IsPartedInside p = AreLaidClasses p.of.items p.order.items p.place.items p.spans.items (marks_of p.of.items p.place.items p.spans.items)
+IsPartedInside p = HasSpans p.of.items p.order.items p.place.items p.spans.items (marks_of p.of.items p.place.items p.spans.items)
 
 -- what contracts see of the fields
 abbrev pub parted_of : Parts → Parted
