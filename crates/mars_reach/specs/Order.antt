@@ -1,8 +1,11 @@
 -- Nodes in the order in which a walk over a queue meets them.
 use Rattle.std.specs.Prelude.{◌≡◌, ℕ, suc, ◌<◌, List, [], ◌∷◌, ◌++◌, length, map, take, slice_get, Some, nat_eq, if◌then◌else◌, All, Contains}
 use Rattle.std.specs.List.{flat_map, list_any}
-use Rattle.mars_tree.specs.Graph.{Node, label_of, kids_of}
-use Rattle.mars_tree.specs.Canonical.{mentions, known_after, walk_end}
+use Rattle.mars_tree.specs.Graph.{Node, kids_of}
+use Rattle.mars_tree.specs.Canonical.{walk_end}
+pub use Rattle.mars_base.specs.Lists.{AreDistinct}
+pub use Rattle.mars_tree.specs.Canonical.{FirstInOrder}
+pub use Rattle.mars_tree.specs.Renumbered.{renumbered_node, renumbered}
 
 -- the numbers with one more, which goes last where it is new
 abbrev pub with_number : List ℕ → ℕ → List ℕ
@@ -12,10 +15,6 @@ with_number met x = if list_any (nat_eq x) met then met else met ++ x ∷ []
 abbrev pub met_after : List ℕ → List ℕ → List ℕ
 met_after met [] = met
 met_after met (x ∷ xs) = met_after (with_number met x) xs
-
--- no number stands twice
-abbrev pub AreDistinct : List ℕ → Type 0
-AreDistinct xs = (i j x : ℕ) → slice_get xs i ≡ Some x → slice_get xs j ≡ Some x → i ≡ j
 
 -- the first place of a number
 abbrev pub place_in : List ℕ → ℕ → ℕ
@@ -37,16 +36,3 @@ pub record IsReach (g : List Node) (roots order : List ℕ) : Type 0 where
   pub distinct : AreDistinct order
   pub in_range : All (λ n. n < length g) order
   pub reached : All (IsReached g roots) order
-
--- a node under other numbers
-abbrev pub renumbered_node : List Node → (ℕ → ℕ) → ℕ → Node
-renumbered_node g number n = record { label = label_of g n; kids = map number (kids_of g n) }
-
--- the nodes of a list, under other numbers
-abbrev pub renumbered : List Node → (ℕ → ℕ) → List ℕ → List Node
-renumbered g number order = map (renumbered_node g number) order
-
--- numbers first appear in order, each before the kids of its own node
-pub record FirstInOrder (g : List Node) (roots : List ℕ) : Type 0 where
-  pub in_order : known_after 0 (mentions roots g) ≡ Some (length g)
-  pub early : (i : ℕ) → i < length g → Contains (mentions roots (take i g)) i

@@ -2,15 +2,12 @@
 use Rattle.std.specs.Prelude.{◌≡◌, ℕ, ◌<◌, ◌≤◌, List, length, map, All, Contains}
 use Rattle.mars_tree.specs.Graph.{Node, kids_of, Same}
 use Rattle.mars_tree.specs.Canonical.{KeepsWalks}
+pub use Rattle.mars_tree.specs.Canonical.{IsReduced}
 use Rattle.mars_reach.specs.Order.{place_in, renumbered, IsReach, IsReached, FirstInOrder}
 
 -- each kid of the nodes is one of them
 abbrev pub IsClosed : List Node → List ℕ → Type 0
 IsClosed g nodes = All (λ n. All (Contains nodes) (kids_of g n)) nodes
-
--- no two nodes are the same tree
-abbrev pub IsReduced : List Node → Type 0
-IsReduced g = (i j : ℕ) → i < length g → j < length g → Same g i g j → i ≡ j
 
 -- `h` with the roots `others` is the part of `g` that the roots reach, in the order of a walk over a queue
 pub record IsPart (g : List Node) (roots : List ℕ) (h : List Node) (others : List ℕ) : Type 0 where

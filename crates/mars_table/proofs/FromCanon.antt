@@ -39,7 +39,7 @@ kids_of_taken (v ∷ g) (suc i) (suc node) lt = let r = kids_of_taken g i node (
 
 module _ (g : List Node) (roots : List ℕ) (is : IsCanonical g roots) where
   from_before : (i : ℕ) → i < length g → ((j : ℕ) → j < i → IsReached g roots j) → IsReached g roots i
-  from_before i lt before = elim (Contains-append_cases roots (flat_map (λ node. node.kids) (take i g)) i (is.early i lt)) [
+  from_before i lt before = elim (Contains-append_cases roots (flat_map (λ node. node.kids) (take i g)) i (is.numbered.early i lt)) [
     | inl c ↦ let root : slice_get roots c.0 ≡ Some i = slice_get-get_or roots c.0 i c.1 ∙ ap (λ y. Some y) c.2 in ((c.0, []), ap (option_and_then (λ root. Some root)) root)
     | inr c ↦
         let kid = kid_of_one (take i g) i c in
@@ -99,7 +99,7 @@ module _ (g : List Node) (root : ℕ) (c : List Node) (no_free : ReachesNoFree g
 -- the canonical graph of what a root without free leaves reaches is that of its tree
 pub canon_is_tree : (g : List Node) (root : ℕ) (c : List Node) (roots : List ℕ) → ReachesNoFree g root → IsGraph c → IsCanonical c roots → KeepsWalks g (root ∷ []) c roots → IsTreeGraph c × Same c 0 g root
 canon_is_tree g root c roots no_free graph is keeps =
-    let zero_root : roots ≡ 0 ∷ [] = one_root roots (length c) (flat_map (λ node. node.kids) c) keeps.count is.in_order in
+    let zero_root : roots ≡ 0 ∷ [] = one_root roots (length c) (flat_map (λ node. node.kids) c) keeps.count is.numbered.in_order in
     let is' : IsCanonical c (0 ∷ []) = subst (IsCanonical c) zero_root is in
     let keeps' : KeepsWalks g (root ∷ []) c (0 ∷ []) = subst (KeepsWalks g (root ∷ []) c) zero_root keeps in (
       record {

@@ -55,4 +55,4 @@ fresh_within rows tree (suc n) = either (is_none (find_row rows tree n)) (fresh_
 
 -- a tree has a root
 pub tree_some : (tree : List Node) → IsTreeGraph tree → 0 < length tree
-tree_some tree is = All-head (λ x. x < length tree) 0 (flat_map (λ (node : Node). node.kids) tree) (known_after_bounds 0 (length tree) (mentions (0 ∷ []) tree) is.canonical.in_order).1
+tree_some tree is = All-head (λ x. x < length tree) 0 (flat_map (λ (node : Node). node.kids) tree) (known_after_bounds 0 (length tree) (mentions (0 ∷ []) tree) is.canonical.numbered.in_order).1

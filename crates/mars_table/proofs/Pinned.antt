@@ -37,7 +37,7 @@ kid_of_first (node ∷ g) (suc i) x c = elim (Contains-append_cases node.kids (f
 -- each node of a canonical graph is at the end of a path from the root
 reached_below : (g : List Node) → IsCanonical g (0 ∷ []) → (bound i : ℕ) → i < bound → i < length g → (path : List ℕ) × (end_of g 0 path ≡ Some i)
 reached_below g is zero i lt i_in = absurd (omega arith)
-reached_below g is (suc bound) i lt i_in = elim (Contains-append_cases (0 ∷ []) (flat_map (λ node. node.kids) (take i g)) i (is.early i i_in)) [
+reached_below g is (suc bound) i lt i_in = elim (Contains-append_cases (0 ∷ []) (flat_map (λ node. node.kids) (take i g)) i (is.numbered.early i i_in)) [
   | inl root ↦ first (contains_get (0 ∷ []) i root)
   | inr kid ↦
       let m = kid_of_first g i i kid in

@@ -1,5 +1,5 @@
 -- Graphs that are equal node by node, and what a graph writes into a hash.
-use Rattle.std.specs.Prelude.{ℕ, List, ◌++◌, Bool, ◌&&◌, nat_eq, map}
+use Rattle.std.specs.Prelude.{ℕ, List, ◌++◌, Bool, ◌&&◌, Option, nat_eq, map}
 use Rattle.std.specs.List.{flat_map}
 use Rattle.std.specs.Option.{option_eq}
 use Rattle.std.specs.Cmp.Lexicographic.{pointwise}
@@ -13,9 +13,13 @@ use Rattle.mars_tree.specs.Graph.{Node}
 abbrev pub same_label : Label → Label → Bool
 same_label = (label_eq.ghosts).eq
 
+-- whether two nodes show one label, or both none
+abbrev pub same_label_at : Option Label → Option Label → Bool
+same_label_at = option_eq same_label
+
 -- whether two nodes have one label, or none, and the same kids
 abbrev pub same_node : Node → Node → Bool
-same_node v w = option_eq same_label v.label w.label && pointwise nat_eq v.kids w.kids
+same_node v w = same_label_at v.label w.label && pointwise nat_eq v.kids w.kids
 
 -- whether two lists of nodes are one
 abbrev pub same_nodes : List Node → List Node → Bool

@@ -1,6 +1,8 @@
 -- The spellings of names, as a list in which no text stands twice.
-use Rattle.std.specs.Prelude.{◌≡◌, ℕ, List, [], ◌∷◌, ◌++◌, length, slice_get, Option, Some, position, unwrap_or, is_some, nat_eq, if◌then◌else◌, codes}
+use Rattle.std.specs.Prelude.{◌≡◌, ℕ, List, [], ◌∷◌, ◌++◌, length, slice_index_or, Option, position, unwrap_or, is_some, nat_eq, if◌then◌else◌, codes}
 use Rattle.std.specs.Cmp.Lexicographic.{pointwise}
+use Rattle.mars_tree.specs.declared.label.NameId.{NameId}
+pub use Rattle.mars_base.specs.Lists.{AreDistinct}
 
 -- the names that stand in every list, at the places 0 to 12
 unfoldable pub built_in_names : List (List ℕ)
@@ -20,6 +22,6 @@ name_number text names = unwrap_or (place_of text names) (length names)
 abbrev pub with_text : List ℕ → List (List ℕ) → List (List ℕ)
 with_text text names = if is_some (place_of text names) then names else names ++ text ∷ []
 
--- no text stands twice
-abbrev pub AreDistinct : List (List ℕ) → Type 0
-AreDistinct names = (i j : ℕ) (text : List ℕ) → slice_get names i ≡ Some text → slice_get names j ≡ Some text → i ≡ j
+-- the spelling of a name, nothing where it has none
+abbrev pub spelling : List (List ℕ) → NameId → List ℕ
+spelling names id = slice_index_or names id.0 []

@@ -1,0 +1,6 @@
+-- Plain lists, as several crates speak of them.
+use Rattle.std.specs.Prelude.{◌≡◌, ℕ, List, Some, slice_get}
+
+-- no two entries are the same
+abbrev pub AreDistinct : {X : Type 0} → List X → Type 0
+AreDistinct {X} xs = (i j : ℕ) (x : X) → slice_get xs i ≡ Some x → slice_get xs j ≡ Some x → i ≡ j
