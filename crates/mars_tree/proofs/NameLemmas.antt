@@ -1,6 +1,7 @@
 -- Places of texts in lists of names.
 use Rattle.std.proofs.Common.{not, ◌&&◌, ◌||◌, append_assoc, if◌then◌else◌, ◌≡◌, ℕ, zero, suc, ◌+◌, ◌⊎◌, ◌<◌, List, [], ◌∷◌, ◌++◌, length, map, Option, Some, None, Bool, true, false, cond, slice_get, position, refl, sym, subst, ap, ◌∙◌, arith, is_some, inl, inr, nat_eq, append-nil, add-zero, zero-add}
 use Rattle.std.proofs.lemmas.List.{map-append}
+use Rattle.std.proofs.lemmas.Option.{slice_get_within}
 use Rattle.std.proofs.lemmas.Bool.{true≢false}
 use Rattle.std.proofs.lemmas.Bool.Decides.{Decides-eqb}
 use Rattle.std.proofs.lemmas.Iterator.Adapters.{position_from-zero}
@@ -8,12 +9,13 @@ use Rattle.std.proofs.lemmas.Slice.Eq.{slice_eq-Decides}
 use Rattle.std.specs.Cmp.Lexicographic.{pointwise}
 use Rattle.std.specs.List.{position_from, list_any}
 use Rattle.std.specs.Option.{option_map}
+use Rattle.mars_base.proofs.ListFacts.{get-push}
 use Rattle.mars_tree.specs.Names.{place_of, with_text, built_in_names, AreDistinct}
 
--- a place in the first list, else one in the second, which stands behind
-abbrev pub place_behind : ℕ → Option ℕ → Option ℕ → Option ℕ
-place_behind n (Some i) other = Some i
-place_behind n None other = option_map (λ j. n + j) other
+-- a place in the first list, else one in the second, which comes after
+abbrev pub place_after : ℕ → Option ℕ → Option ℕ → Option ℕ
+place_after n (Some i) other = Some i
+place_after n None other = option_map (λ j. n + j) other
 
 pub position_from-add : {X : Type 0} (p : X → Bool) (n k : ℕ) (xs : List X) → position_from p (n + k) xs ≡ option_map (λ j. n + j) (position_from p k xs)
 position_from-add p n k [] = refl
@@ -27,13 +29,13 @@ position_from-add p n k (x ∷ xs) =
     by true later = refl
     by false later = later
 
-pub position_from-append : {X : Type 0} (p : X → Bool) (k : ℕ) (xs ys : List X) → position_from p k (xs ++ ys) ≡ place_behind (k + length xs) (position_from p k xs) (position_from p 0 ys)
+pub position_from-append : {X : Type 0} (p : X → Bool) (k : ℕ) (xs ys : List X) → position_from p k (xs ++ ys) ≡ place_after (k + length xs) (position_from p k xs) (position_from p 0 ys)
 position_from-append p k [] ys = ap (λ i. position_from p i ys) (sym (add-zero k)) ∙ position_from-add p k 0 ys ∙ ap (λ i. option_map (λ j. i + j) (position_from p 0 ys)) (sym (add-zero k))
 position_from-append p k (x ∷ xs) ys =
-    by (p x) (position_from-append p (k + 1) xs ys ∙ ap (λ i. place_behind i (position_from p (k + 1) xs) (position_from p 0 ys)) (let e : k + 1 + length xs ≡ k + suc (length xs) = omega arith in e))
+    by (p x) (position_from-append p (k + 1) xs ys ∙ ap (λ i. place_after i (position_from p (k + 1) xs) (position_from p 0 ys)) (let e : k + 1 + length xs ≡ k + suc (length xs) = omega arith in e))
   where
-    by : (b : Bool) → position_from p (k + 1) (xs ++ ys) ≡ place_behind (k + suc (length xs)) (position_from p (k + 1) xs) (position_from p 0 ys) →
-        cond b (Some k) (position_from p (k + 1) (xs ++ ys)) ≡ place_behind (k + suc (length xs)) (cond b (Some k) (position_from p (k + 1) xs)) (position_from p 0 ys)
+    by : (b : Bool) → position_from p (k + 1) (xs ++ ys) ≡ place_after (k + suc (length xs)) (position_from p (k + 1) xs) (position_from p 0 ys) →
+        cond b (Some k) (position_from p (k + 1) (xs ++ ys)) ≡ place_after (k + suc (length xs)) (cond b (Some k) (position_from p (k + 1) xs)) (position_from p 0 ys)
     by true later = refl
     by false later = later
 
@@ -41,13 +43,13 @@ pub position_from-map : {X Y : Type 0} (p : Y → Bool) (f : X → Y) (k : ℕ) 
 position_from-map p f k [] = refl
 position_from-map p f k (x ∷ xs) = ap (cond (p (f x)) (Some k)) (position_from-map p f (k + 1) xs)
 
-pub place_of-append : (text : List ℕ) (xs ys : List (List ℕ)) → place_of text (xs ++ ys) ≡ place_behind (length xs) (place_of text xs) (place_of text ys)
+pub place_of-append : (text : List ℕ) (xs ys : List (List ℕ)) → place_of text (xs ++ ys) ≡ place_after (length xs) (place_of text xs) (place_of text ys)
 place_of-append text xs ys =
     let p : List ℕ → Bool = λ name. pointwise nat_eq text name in
     position_from-zero p (xs ++ ys) ∙ position_from-append p 0 xs ys ∙
-    ap (λ i. place_behind i (position_from p 0 xs) (position_from p 0 ys)) (zero-add (length xs)) ∙
-    ap (λ o. place_behind (length xs) o (position_from p 0 ys)) (sym (position_from-zero p xs)) ∙
-    ap (λ o. place_behind (length xs) (place_of text xs) o) (sym (position_from-zero p ys))
+    ap (λ i. place_after i (position_from p 0 xs) (position_from p 0 ys)) (zero-add (length xs)) ∙
+    ap (λ o. place_after (length xs) o (position_from p 0 ys)) (sym (position_from-zero p xs)) ∙
+    ap (λ o. place_after (length xs) (place_of text xs) o) (sym (position_from-zero p ys))
 
 pub place_of-map : {X : Type 0} (text : List ℕ) (f : X → List ℕ) (xs : List X) → place_of text (map f xs) ≡ position (λ x. pointwise nat_eq text (f x)) xs
 place_of-map text f xs =
@@ -69,24 +71,21 @@ none_from text k (name ∷ names) (suc i) missing at = by (pointwise nat_eq text
 pub missing_from : (text : List ℕ) (names : List (List ℕ)) (i : ℕ) → place_of text names ≡ None → slice_get names i ≡ Some text → ⊥
 missing_from text names i missing at = none_from text 0 names i (sym (position_from-zero (λ name. pointwise nat_eq text name) names) ∙ missing) at
 
--- what stands in a list with one more at its end
+-- an entry of a list with one more at its end
 pub slice_get-push : {X : Type 0} (xs : List X) (y : X) (i : ℕ) (x : X) → slice_get (xs ++ y ∷ []) i ≡ Some x → ((slice_get xs i ≡ Some x) × (i < length xs)) ⊎ ((i ≡ length xs) × (y ≡ x))
-slice_get-push [] y zero x at = inr (refl, cc)
-slice_get-push [] y (suc i) x at = absurd cc
-slice_get-push (z ∷ xs) y zero x at = inl (at, omega arith)
-slice_get-push (z ∷ xs) y (suc i) x at = elim (slice_get-push xs y i x at) [
-  | inl before ↦ inl (before.0, omega (arith, before.1))
-  | inr last ↦ inr (omega (arith, last.0), last.1)
+slice_get-push xs y i x at = elim (get-push xs y i x at) [
+  | inl before ↦ inl (before, slice_get_within xs i x before)
+  | inr last ↦ inr last
 ]
 
 pub distinct-push : (names : List (List ℕ)) (text : List ℕ) → AreDistinct names → place_of text names ≡ None → AreDistinct (names ++ text ∷ [])
-distinct-push names text distinct missing i j t at other = elim (slice_get-push names text i t at) [
-  | inl before ↦ elim (slice_get-push names text j t other) [
-    | inl earlier ↦ distinct i j t before.0 earlier.0
-    | inr last ↦ absurd (missing_from text names i missing (before.0 ∙ ap Some (sym last.1)))
+distinct-push names text distinct missing i j t at other = elim (get-push names text i t at) [
+  | inl before ↦ elim (get-push names text j t other) [
+    | inl earlier ↦ distinct i j t before earlier
+    | inr last ↦ absurd (missing_from text names i missing (before ∙ ap Some (sym last.1)))
   ]
-  | inr last ↦ elim (slice_get-push names text j t other) [
-    | inl earlier ↦ absurd (missing_from text names j missing (earlier.0 ∙ ap Some (sym last.1)))
+  | inr last ↦ elim (get-push names text j t other) [
+    | inl earlier ↦ absurd (missing_from text names j missing (earlier ∙ ap Some (sym last.1)))
     | inr end ↦ last.0 ∙ sym end.0
   ]
 ]
@@ -95,14 +94,14 @@ distinct-push names text distinct missing i j t at other = elim (slice_get-push 
 pub distinct_from_places : (names : List (List ℕ)) → ((i : ℕ) (text : List ℕ) → slice_get names i ≡ Some text → place_of text names ≡ Some i) → AreDistinct names
 distinct_from_places names own i j text at other = let e : Some i ≡ Some j = sym (own i text at) ∙ own j text other in cc
 
--- where a text stands among the built-in names and those that were added
+-- the place of a text among the built-in names and those that were added
 pub place_of-names : {X : Type 0} (text : List ℕ) (f : X → List ℕ) (xs : List X) (names : List (List ℕ)) → built_in_names ++ map f xs ≡ names →
-    place_of text names ≡ place_behind 13 (place_of text built_in_names) (position (λ x. pointwise nat_eq text (f x)) xs)
+    place_of text names ≡ place_after 13 (place_of text built_in_names) (position (λ x. pointwise nat_eq text (f x)) xs)
 unfolding built_in_names
 place_of-names text f xs names is =
-    ap (place_of text) (sym is) ∙ place_of-append text built_in_names (map f xs) ∙ ap (place_behind 13 (place_of text built_in_names)) (place_of-map text f xs)
+    ap (place_of text) (sym is) ∙ place_of-append text built_in_names (map f xs) ∙ ap (place_after 13 (place_of text built_in_names)) (place_of-map text f xs)
 
--- each text is new behind those before it
+-- each text is new after those before it
 abbrev pub are_new : List (List ℕ) → List (List ℕ) → Bool
 are_new known [] = true
 are_new known (text ∷ texts) = not (is_some (place_of text known)) && are_new (known ++ text ∷ []) texts
@@ -144,18 +143,14 @@ list_any_from-none p k (x ∷ xs) missing = by (p x) missing (list_any_from-none
 pub list_any-none : {X : Type 0} (p : X → Bool) (xs : List X) → position p xs ≡ None → list_any p xs ≡ false
 list_any-none p xs missing = list_any_from-none p 0 xs (sym (position_from-zero p xs) ∙ missing)
 
-pub none_behind : (n : ℕ) (o other : Option ℕ) → place_behind n o other ≡ None → other ≡ None
-none_behind n (Some i) other missing = absurd cc
-none_behind n None (Some j) missing = absurd cc
-none_behind n None None missing = refl
+pub none_after : (n : ℕ) (o other : Option ℕ) → place_after n o other ≡ None → other ≡ None
+none_after n (Some i) other missing = absurd cc
+none_after n None (Some j) missing = absurd cc
+none_after n None None missing = refl
 
 -- a text that isn't listed at all isn't among those that were added
 pub new_among_added : {X : Type 0} (text : List ℕ) (f : X → List ℕ) (old : List X) (names : List (List ℕ)) → built_in_names ++ map f old ≡ names → place_of text names ≡ None →
     list_any (λ x. pointwise nat_eq text (f x)) old ≡ false
 new_among_added text f old names is missing =
     list_any-none (λ x. pointwise nat_eq text (f x)) old
-    (none_behind 13 (place_of text built_in_names) (position (λ x. pointwise nat_eq text (f x)) old) (sym (place_of-names text f old names is) ∙ missing))
-
-pub slice_get-behind : {X : Type 0} (xs ys : List X) (i : ℕ) → slice_get (xs ++ ys) (length xs + i) ≡ slice_get ys i
-slice_get-behind [] ys i = ap (λ k. slice_get ys k) (zero-add i)
-slice_get-behind (x ∷ xs) ys i = ap (λ k. slice_get (x ∷ (xs ++ ys)) k) (let e : suc (length xs) + i ≡ suc (length xs + i) = omega arith in e) ∙ slice_get-behind xs ys i
+    (none_after 13 (place_of text built_in_names) (position (λ x. pointwise nat_eq text (f x)) old) (sym (place_of-names text f old names is) ∙ missing))

@@ -1,22 +1,17 @@
 -- Nodes under other numbers, as labels and kids.
 use Rattle.std.proofs.Common.{◌≡◌, ℕ, ◌<◌, ◌+◌, ◌-◌, List, [], ◌∷◌, ◌++◌, length, take, drop, map, refl, sym, ap, ◌∙◌, arith, All, length-append}
-use Rattle.std.proofs.lemmas.List.{take-append-le, drop-append-le, take_all, drop_all, length-map}
+use Rattle.std.proofs.lemmas.List.{take_all, length-map}
 use Rattle.std.proofs.lemmas.List.Elements.{All-nil, All-head, All-tail, All-map, All-append}
+use Rattle.mars_base.proofs.ListFacts.{take-before, drop-before}
 use Rattle.mars_tree.specs.Graph.{Node, IsGraph, label_of, kids_of, arity_at}
 use Rattle.mars_tree.specs.Renumbered.{renumbered, renumbered_node, renumbered_kids, KidsFit}
 use Rattle.mars_tree.specs.Stored.{kid_count, nodes_of}
 use Rattle.mars_tree.proofs.Graphs.{node_in}
 
--- what is after the first part of a list
-take_whole : {X : Type 0} (n : ℕ) (xs ys : List X) → n ≡ length xs → take n (xs ++ ys) ≡ xs
-take_whole n xs ys e = take-append-le n xs ys (omega arith) ∙ take_all n xs (omega arith)
-
-drop_whole : {X : Type 0} (n : ℕ) (xs ys : List X) → n ≡ length xs → drop n (xs ++ ys) ≡ ys
-drop_whole n xs ys e = drop-append-le n xs ys (omega arith) ∙ ap (λ zs. zs ++ ys) (drop_all n xs (omega arith))
-
+-- the second of two lists
 pub last_part : {X : Type 0} (old more all : List X) (count : ℕ) → all ≡ old ++ more → count ≡ length old → take (length all - count) (drop count all) ≡ more
 last_part old more all count e s =
-    let rest : drop count all ≡ more = ap (drop count) e ∙ drop_whole count old more s in
+    let rest : drop count all ≡ more = ap (drop count) e ∙ drop-before count old more s in
     let size : length all ≡ length old + length more = ap length e ∙ length-append old more in
     ap (take (length all - count)) rest ∙ take_all (length all - count) more (omega arith)
 
@@ -42,9 +37,9 @@ module _ (from : List Node) (number : ℕ → ℕ) (is : IsGraph from) where
       let rest : List ℕ = renumbered_kids from number nodes in
       let size = fits n (All-head (λ n. n < length from) n nodes all) in
       ap (λ (ks : List ℕ). let m : Node = record { label = label_of from n; kids = ks } in m ∷ nodes_of (map (label_of from) nodes) (drop (arity_at (label_of from n)) (own ++ rest)))
-      (take_whole (arity_at (label_of from n)) own rest size)
+      (take-before (arity_at (label_of from n)) own rest size)
       ∙ ap (λ (ns : List Node). renumbered_node from number n ∷ ns)
-      (ap (nodes_of (map (label_of from) nodes)) (drop_whole (arity_at (label_of from n)) own rest size) ∙ nodes-renumbered nodes (All-tail (λ n. n < length from) n nodes all))
+      (ap (nodes_of (map (label_of from) nodes)) (drop-before (arity_at (label_of from n)) own rest size) ∙ nodes-renumbered nodes (All-tail (λ n. n < length from) n nodes all))
 
 pub kids_below : (from : List Node) (number : ℕ → ℕ) (count : ℕ) (nodes : List ℕ) → KidsFit from number count nodes → All (λ k. k < count) (renumbered_kids from number nodes)
 kids_below from number count [] all = All-nil (λ k. k < count)

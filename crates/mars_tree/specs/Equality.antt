@@ -1,4 +1,4 @@
--- Graphs that are equal node by node, and what a graph writes into a hash.
+-- When graphs are equal, node by node, and what a graph writes into a hash.
 use Rattle.std.specs.Prelude.{ℕ, List, ◌++◌, Bool, ◌&&◌, Option, nat_eq, map}
 use Rattle.std.specs.List.{flat_map}
 use Rattle.std.specs.Option.{option_eq}
@@ -33,6 +33,6 @@ label_writes = (label_hash.ghosts).hash_input
 abbrev pub all_kids : List Node → List ℕ
 all_kids g = flat_map (λ node. node.kids) g
 
--- all labels, and then all kids; how many stand below a label follows from the label
+-- all labels, and then all kids; how many kids a node has follows from its label
 abbrev pub node_writes : List Node → HashWrites
 node_writes g = slice (option label_writes) (map (λ node. node.label) g) ++ slice usize (all_kids g)

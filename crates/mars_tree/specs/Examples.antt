@@ -1,10 +1,10 @@
 -- Small graphs on which the definitions compute.
-use Rattle.std.specs.Prelude.{◌≡◌, ℕ, List, [], ◌∷◌, Some, None}
+use Rattle.std.specs.Prelude.{◌≡◌, ◌≢◌, ℕ, List, [], ◌∷◌, Some, None}
 use Rattle.mars_tree.specs.declared.label.Label.{Label}
 use Rattle.mars_tree.specs.declared.label.Label.TheVariants.{Name}
 use Rattle.mars_tree.specs.Graph.{Node, labelled, free_leaf, at}
 use Rattle.mars_tree.specs.Graph as graph
-use Rattle.mars_tree.specs.Canonical.{mentions, known_after}
+use Rattle.mars_tree.specs.Canonical.{mentions, known_after, FirstInOrder}
 
 -- the label of a name with so many arguments
 abbrev pub named : ℕ → ℕ → Label
@@ -22,7 +22,11 @@ half_open = labelled (named 14 2) (1 ∷ 2 ∷ []) ∷ labelled (named 15 0) [] 
 abbrev pub disordered : List Node
 disordered = labelled (named 14 2) (2 ∷ 1 ∷ []) ∷ labelled (named 15 0) [] ∷ free_leaf ∷ []
 
--- what stands at the ends of paths, and which numberings are in order
+-- aa, and a node whose only mention is by itself
+abbrev pub unreached : List Node
+unreached = labelled (named 13 0) [] ∷ labelled (named 14 1) (1 ∷ []) ∷ []
+
+-- what the ends of paths show, and which numberings are in order
 pub record Examples : Type 0 where
   pub around : at loop 0 (0 ∷ 0 ∷ 0 ∷ []) ≡ Some (graph.label (named 13 1))
   pub beside : at loop 0 (1 ∷ []) ≡ None
@@ -31,3 +35,7 @@ pub record Examples : Type 0 where
   pub loop_in_order : known_after 0 (mentions (0 ∷ []) loop) ≡ Some 1
   pub tree_in_order : known_after 0 (mentions (0 ∷ []) half_open) ≡ Some 3
   pub skipped : known_after 0 (mentions (0 ∷ []) disordered) ≡ None
+  -- `early` alone refuses `unreached`: its numbers are in order and its nodes are different trees
+  pub unreached_in_order : known_after 0 (mentions (0 ∷ []) unreached) ≡ Some 2
+  pub unreached_labels : at unreached 0 [] ≢ at unreached 1 []
+  pub unreached_refused : FirstInOrder unreached (0 ∷ []) → ⊥

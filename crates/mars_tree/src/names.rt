@@ -1,4 +1,4 @@
-//! The spellings of names: a list in which no text stands twice, found through an index.
+//! The spellings of names: a list without doubles, searched through an index.
 #![tactic(auto, unfolding(crate::specs::Names::built_in_names))]
 
 ghost use Rattle.std.specs.Prelude.{◌≡◌, ◌-◌, ◌^◌, ◌<◌, ◌≤◌, length, slice_get, Some, IfOk, OnOk, OnErr, ◌++◌, ◌∷◌, [], None, map};
@@ -11,7 +11,7 @@ use mars_base::NoMemory;
 use std::alloc::Global;
 use std::marker::Model;
 
-/// The spellings that stand in every list of names, at the places 0 to 12.
+/// The spellings that every list of names begins with.
 const BUILT_IN: [&str; 13] = [
     "eq", "dif", "freeze", "val", "bound", "free", "out", "add", "sub", "mul", "div", "mod", "outm",
 ];

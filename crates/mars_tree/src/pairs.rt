@@ -1,4 +1,4 @@
-//! The pairs of nodes that a comparison has met: a queue in which each pair stands once and is found at once.
+//! The pairs of nodes that a comparison has met: a queue that holds each pair once and finds it at once.
 ghost use Rattle.std.specs.Prelude.{◌≡◌, ◌<◌, ◌≤◌, ◌*◌, [], length, slice_get, Some, OnOk, Contains};
 ghost use Rattle.mars_tree.specs.Pairs.{PairsGrow};
 
