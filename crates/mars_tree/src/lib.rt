@@ -13,7 +13,7 @@ pub use graph::Graph;
 pub use label::{Label, NameId};
 pub use laws::{examples, one_canonical_graph, one_canonical_graph_of_trees, short_paths_decide};
 pub use names::Names;
-pub use numbers::{NewNumbers, NodeNumber, push_numbers};
+pub use numbers::{NewNumbers, NodeNumber, push_renumbered};
 pub use sameness::same;
 
 #[cfg(test)]

@@ -43,7 +43,7 @@ impl NewNumbers for Vec<usize> {
 }
 
 /// Puts the numbers that nodes get last in a list, which stays as it was where memory fails.
-pub fn push_numbers<N: NewNumbers>(
+pub fn push_renumbered<N: NewNumbers>(
     nodes: &[usize],
     numbers: &N,
     into: &mut Vec<usize>,

@@ -7,7 +7,7 @@ ghost use Rattle.mars_tree.specs.Stored.{kid_count, starts_from};
 
 use crate::graph::Graph;
 use crate::label::{Label, kid_places};
-use crate::numbers::{NewNumbers, push_numbers};
+use crate::numbers::{NewNumbers, push_renumbered};
 use mars_base::NoMemory;
 
 /// Where the kids of each label begin, those of the first at `start`.
@@ -61,13 +61,13 @@ fn push_some<N: NewNumbers>(
     ensures more { take (length into.old.items) into.new.items ≡ into.old.items }
 {
     for node in nodes {
-        push_numbers(from.kids(*node), numbers, into)?;
+        push_renumbered(from.kids(*node), numbers, into)?;
     }
     Ok(())
 }
 
 /// The kids of nodes under other numbers.
-pub(super) fn push_renumbered<N: NewNumbers>(
+pub(super) fn push_all_kids<N: NewNumbers>(
     from: &Graph,
     nodes: &[usize],
     numbers: &N,

@@ -6,7 +6,7 @@ ghost use Rattle.mars_tree.specs.Renumbered.{renumbered, HaveKids, KidsFit};
 ghost use Rattle.mars_tree.specs.Stored.{kid_count, starts_from, nodes_of};
 
 use crate::graph::Graph;
-use crate::graph::flat::{push_labels, push_renumbered, push_starts};
+use crate::graph::flat::{push_all_kids, push_labels, push_starts};
 use crate::label::Label;
 use crate::numbers::{NewNumbers, NodeNumber, push_kids};
 use mars_base::NoMemory;
@@ -71,7 +71,7 @@ impl Graph {
         let start = self.kids.len();
         self.starts.reserve(nodes.len())?;
         self.labels.reserve(nodes.len())?;
-        push_renumbered(from, nodes, numbers, &mut self.kids)?;
+        push_all_kids(from, nodes, numbers, &mut self.kids)?;
         // there is room, so that neither fails
         push_labels(from, nodes, &mut self.labels)?;
         push_starts(&self.labels[count..], start, &mut self.starts)?;

@@ -23,13 +23,13 @@ push_starts-requires g c =
       arith,
       ap kid_count last,
       size,
-      ap length c.in_ok-push_renumbered.ensures.ok,
+      ap length c.in_ok-push_all_kids.ensures.ok,
       length-append c.self.inside.kids.items more,
       c.len-start.ensures,
       c.self.inside.kids.ok.0,
-      c.push_renumbered.new.into.ok.0,
-      c.push_renumbered.new.into.ok.1,
-      c.push_renumbered.new.into.small,
+      c.push_all_kids.new.into.ok.0,
+      c.push_all_kids.new.into.ok.1,
+      c.push_all_kids.new.into.small,
     )
 
 pub invariant_of-self-2 : goal.invariant_of-self-2
@@ -47,7 +47,7 @@ invariant_of-self-2 g c =
     ∙ ap (λ ls. c.self.inside.starts.items ++ starts_from c.len-start.result ls) last ∙ ap (λ n. c.self.inside.starts.items ++ starts_from n ms) start in
     let size = kid_count-renumbered from f c.len-nodes.ensures.graph nodes c.requires.nodes_in in
     let many : length c.args.self.now + length nodes ≡ length c.self.inside.labels.items + length ms = omega (arith, seen-length c.self.inside.labels.items c.self.inside.kids.items c.args.self.now c.self.view_is, length-map nodes (label_of from)) in
-    laid_like _ _ _ _ _ _ labels starts c.in_ok-push_renumbered.ensures.ok
+    laid_like _ _ _ _ _ _ labels starts c.in_ok-push_all_kids.ensures.ok
     (laid-append c.self.inside.labels.items ms c.self.inside.starts.items c.self.inside.kids.items more c.self.invariant size
     (kids_below from f (length c.self.inside.labels.items + length ms) nodes (subst (λ n. KidsFit from f n nodes) many c.requires.fits)))
 
@@ -59,6 +59,6 @@ returns-clause-ok g c =
     let ms : List (Option Label) = map (label_of from) nodes in
     let more : List ℕ = renumbered_kids from f nodes in
     let labels = c.in_ok-push_labels.ensures.ok ∙ ap (λ (xs : List (Option Label)). xs ++ ms) c.in_ok-reserve-2.ensures.items in
-    ap (λ ls. nodes_of ls c.push_renumbered.new.into.items) labels ∙ ap (nodes_of (c.self.inside.labels.items ++ ms)) c.in_ok-push_renumbered.ensures.ok
+    ap (λ ls. nodes_of ls c.push_all_kids.new.into.items) labels ∙ ap (nodes_of (c.self.inside.labels.items ++ ms)) c.in_ok-push_all_kids.ensures.ok
     ∙ seen-append c.self.inside.labels.items ms c.self.inside.starts.items c.self.inside.kids.items more c.args.self.now c.self.invariant c.self.view_is
     ∙ ap (λ ns. c.args.self.now ++ ns) (nodes-renumbered from f c.len-nodes.ensures.graph nodes c.requires.nodes_in)
