@@ -1,7 +1,7 @@
 #!/usr/bin/env bash
-# How long the program takes to read inputs that it refuses at their last token, so that the table isn't asked.
-# For each kind of input and each size the best of several runs stands beside that of half the size, and beside a
-# text of as many blanks, which is copied through the program and refused.
+# How long the program takes to read inputs that it refuses at their last token, so that the table isn't asked: for each
+# kind of input and each size the best of nine runs, in milliseconds. A text of as many blanks shows what copying it
+# through the program takes.
 set -eu
 cd "$(dirname "$0")/.."
 program=crates/marseille/out/marseille
