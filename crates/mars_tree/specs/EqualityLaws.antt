@@ -1,4 +1,4 @@
--- That the tests of equality decide it, and what follows for the comparison and the hash.
+-- That the tests of equality decide it, and the laws of the comparison and the hash, which the traits ask for.
 use Rattle.std.specs.Prelude.{◌≡◌, ℕ, List, Bool, true, false, ◌&&◌, Option, Some, None, nat_eq, refl}
 use Rattle.std.proofs.Common.{sym, ap}
 use Rattle.std.specs.Bool.{Decides}
@@ -9,6 +9,7 @@ use Rattle.mars_tree.specs.declared.label.NameId.{NameId}
 use Rattle.mars_tree.specs.declared.label.Label.{Label}
 use Rattle.mars_tree.specs.declared.label.Label.TheVariants.{Name, Int, Dot, Tup}
 use Rattle.mars_tree.specs.Graph.{Node}
+use Rattle.mars_tree.specs.NamesEquality.{same_names, names_writes}
 use Rattle.mars_tree.specs.Equality.{same_label, same_node, same_nodes, node_writes}
 
 both : (a b : Bool) → (a && b) ≡ true → (a ≡ true) × (b ≡ true)
@@ -85,3 +86,15 @@ nodes_partial_equivalence = partial_equiv_from_equiv nodes_equivalence
 
 pub nodes_alike : (g h : List Node) → same_nodes g h ≡ true → node_writes g ≡ node_writes h
 nodes_alike g h e = ap node_writes ((nodes_decide g h).0 e)
+
+pub names_decide : (names others : List (List ℕ)) → Decides (same_names names others) (names ≡ others)
+names_decide = pointwise_decides bytes_decides
+
+pub names_equivalence : IsEquivalence same_names
+names_equivalence = equivalence_from_decides same_names names_decide
+
+pub names_partial_equivalence : IsPartialEquivalence same_names
+names_partial_equivalence = partial_equiv_from_equiv names_equivalence
+
+pub names_alike : (names others : List (List ℕ)) → same_names names others ≡ true → names_writes names ≡ names_writes others
+names_alike names others e = ap names_writes ((names_decide names others).0 e)

@@ -5,6 +5,8 @@ ghost use Rattle.std.specs.Prelude.{◌≡◌, ◌-◌, ◌^◌, ◌<◌, ◌≤
 ghost use Rattle.std.specs.Option.{option_map};
 ghost use Rattle.mars_tree.specs.Names.{built_in_names, place_of, name_number, with_text, AreDistinct};
 
+mod equality;
+
 use crate::label::NameId;
 use indexmap::IndexSet;
 use mars_base::NoMemory;
