@@ -1,14 +1,13 @@
 -- The spellings of names, as a list without doubles: a name's number is the place of its spelling.
-use Rattle.std.specs.Prelude.{ℕ, List, [], ◌∷◌, ◌++◌, length, slice_index_or, Option, position, unwrap_or, is_some, nat_eq, if◌then◌else◌, codes}
+use Rattle.std.specs.Prelude.{ℕ, List, [], ◌∷◌, ◌++◌, length, slice_index_or, Option, position, unwrap_or, is_some, nat_eq, if◌then◌else◌, map}
 use Rattle.std.specs.Cmp.Lexicographic.{pointwise}
 use Rattle.mars_tree.specs.declared.label.NameId.{NameId}
+use Rattle.mars_tree.specs.declared.names.TheConstants.{BUILT_IN}
 pub use Rattle.mars_base.specs.Lists.{AreDistinct}
 
 -- the spellings that every list begins with
 unfoldable pub built_in_names : List (List ℕ)
-built_in_names =
-    codes "eq" ∷ codes "dif" ∷ codes "freeze" ∷ codes "val" ∷ codes "bound" ∷ codes "free" ∷ codes "out" ∷ codes "add" ∷
-    codes "sub" ∷ codes "mul" ∷ codes "div" ∷ codes "mod" ∷ codes "outm" ∷ []
+built_in_names = map (λ name. name.now) BUILT_IN
 
 -- the place of a text among the names
 abbrev pub place_of : List ℕ → List (List ℕ) → Option ℕ

@@ -8,7 +8,7 @@ returns c =
     let left = c.args.left.now in
     let right = c.args.right.now in (
       λ e. one-from_gets left right c.requires (λ k x y at other.
-      let within : k < c.loop-place.place = omega (arith, slice_get_within left k x at, c.loop-place-test.false, c.len-place-end.ensures.len) in
-      c.loop-place.invariant k x y within at other),
+          let within : k < c.loop-place.place = omega (arith, slice_get_within left k x at, c.loop-place-test.false, c.len-place-end.ensures.len) in
+          c.loop-place.invariant k x y within at other),
       λ e. refl,
     )
