@@ -10,8 +10,7 @@ use Rattle.mars_store.specs.Valuation.{Valuation, value, Agree}
 use Rattle.mars_store.specs.System.{System, IsSystem, IsUnbound, resolve, rank, equation_of, linked}
 use Rattle.mars_store.specs.Solutions.{InSol, over}
 use Rattle.mars_store.specs.Laws.{IsImplied}
-use Rattle.mars_store.proofs.Links.{resolve-unbound}
-use Rattle.mars_store.proofs.Solving.{solution-last, same-label}
+use Rattle.mars_store.proofs.CallerLemmas.{resolve-unbound, solution-last, same-label}
 use Rattle.mars_unify.specs.Met.{with_pair}
 use Rattle.mars_unify.specs.Meeting.{SameAt, AreSame, IsCovered, IsSettled, AreAlike, AreMet, IsMeeting}
 use Rattle.mars_unify.specs.Unified.{AreApart}
