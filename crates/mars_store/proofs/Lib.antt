@@ -1,8 +1,10 @@
-pub mod Cut
-pub mod Links
-pub mod Marks
-pub mod Plain
-pub mod Roots
-pub mod Shown
-pub mod Solving
-pub mod Stored
+pub mod CallerLemmas
+mod Cut
+mod Growing
+mod Links
+mod Marks
+mod Plain
+mod Roots
+mod Shown
+mod Solving
+mod Stored

@@ -1,8 +1,9 @@
 -- Where links lead.
-use Rattle.std.proofs.Common.{◌≡◌, ◌≢◌, ℕ, zero, suc, ◌<◌, List, [], ◌∷◌, length, get_or, All, cond, eqb, refl, sym, arith, inl, inr}
+use Rattle.std.proofs.Common.{◌≡◌, ◌≢◌, ℕ, zero, suc, ◌<◌, List, [], ◌∷◌, ◌++◌, length, get_or, All, cond, eqb, refl, sym, ap, ◌∙◌, subst, arith, inl, inr}
 use Rattle.std.proofs.lemmas.Bool.{cases_eq, eq-eqb, ne_eqb}
-use Rattle.std.proofs.lemmas.List.Elements.{All-head, All-tail, All-get_or, All-cons, All-nil}
-use Rattle.mars_store.specs.System.{resolve, IsTriangular, IsUnbound}
+use Rattle.std.proofs.lemmas.List.Elements.{All-head, All-tail, All-get_or, All-cons, All-nil, All-push}
+use Rattle.mars_tree.specs.Graph.{Node, IsNode, free_leaf}
+use Rattle.mars_store.specs.System.{resolve, rank_of, IsLink, IsTriangular, IsUnbound}
 
 pub resolve-unbound : (bound : List (ℕ × ℕ)) (n : ℕ) → IsUnbound bound n → resolve bound n ≡ n
 resolve-unbound [] n h = refl
@@ -51,3 +52,40 @@ resolve-inside nodes (e ∷ later) n h a =
       | inl p ↦ rw (eq-eqb n e.0 p) (resolve-inside nodes later e.1 (All-head (λ e. e.1 < nodes) e later a) (All-tail (λ e. e.1 < nodes) e later a))
       | inr p ↦ rw (ne_eqb n e.0 p) (resolve-inside nodes later n h (All-tail (λ e. e.1 < nodes) e later a))
     ]
+
+-- past the nodes, nothing is asked of a node
+pub leaf_node : (count : ℕ) → IsNode count free_leaf
+leaf_node count = record { kids = refl; in_range = All-nil (λ kid. kid < count) }
+
+-- a link between two nodes that stay
+pub link-moved : (nodes more : List Node) (e : ℕ × ℕ) → e.0 < length more → e.1 < length more
+    → get_or more e.0 free_leaf ≡ get_or nodes e.0 free_leaf → get_or more e.1 free_leaf ≡ get_or nodes e.1 free_leaf → IsLink nodes e → IsLink more e
+link-moved nodes more e h k p q l = record {
+  variable = record { inside = h; free = ap (λ (n : Node). n.label) p ∙ l.variable.free };
+  inside = k;
+  falls =
+      subst (λ (n : Node). rank_of n.label e.1 < rank_of (get_or more e.0 free_leaf).label e.0) (sym q)
+      (subst (λ (n : Node). rank_of (get_or nodes e.1 free_leaf).label e.1 < rank_of n.label e.0) (sym p) l.falls);
+}
+
+-- an equation of two nodes without links
+pub triangular-push : (bound : List (ℕ × ℕ)) (x y : ℕ) → IsTriangular bound → IsUnbound bound x → IsUnbound bound y → IsTriangular (bound ++ (x, y) ∷ [])
+triangular-push [] x y t hx hy = (All-nil _, tt)
+triangular-push (e ∷ later) x y t hx hy = (
+  All-push (λ next. (next.0 ≢ e.0) × (next.1 ≢ e.0)) later (x, y) t.0
+      ((λ p. All-head (λ equation. equation.0 ≢ x) e later hx (sym p)), (λ p. All-head (λ equation. equation.0 ≢ y) e later hy (sym p))),
+  triangular-push later x y t.1 (All-tail (λ equation. equation.0 ≢ x) e later hx) (All-tail (λ equation. equation.0 ≢ y) e later hy),
+)
+
+-- what holds of all of a list, in its parts
+pub All-front : {X : Type 0} (P : X → Type 0) (xs ys : List X) → All P (xs ++ ys) → All P xs
+All-front P [] ys h = All-nil P
+All-front P (x ∷ xs) ys h = All-cons P x xs (All-head P x (xs ++ ys) h) (All-front P xs ys (All-tail P x (xs ++ ys) h))
+
+pub All-last : {X : Type 0} (P : X → Type 0) (xs : List X) (x : X) → All P (xs ++ x ∷ []) → P x
+All-last P [] x h = All-head P x [] h
+All-last P (y ∷ xs) x h = All-last P xs x (All-tail P y (xs ++ x ∷ []) h)
+
+pub All-after : {X : Type 0} (P : X → Type 0) (xs ys : List X) → All P (xs ++ ys) → All P ys
+All-after P [] ys h = h
+All-after P (x ∷ xs) ys h = All-after P xs ys (All-tail P x (xs ++ ys) h)

@@ -56,6 +56,11 @@ pub at-labelled : (g : List Node) (n : ℕ) (label : Label) → label_of g n ≡
 at-labelled g n label e [] = rw e refl
 at-labelled g n label e (place ∷ path) = at-kid g path (slice_get (kids_of g n) place)
 
+-- a variable's name has no kids
+pub plain-arity : (name : ℕ) (o : Option Label) → arity_of (plain_label name o) ≡ arity_at o
+plain-arity name None = refl
+plain-arity name (Some label) = refl
+
 module _ (system : System) (sound : IsSystem system) (names : ℕ → ℕ) where
   abbrev count : ℕ
   count = length system.nodes
@@ -96,10 +101,6 @@ module _ (system : System) (sound : IsSystem system) (names : ℕ → ℕ) where
   pub kids-inside : (n : ℕ) → n < count → All (λ kid. kid < count) (kids_of system.nodes n)
   kids-inside n h = All-weaker (λ kid. kid < n) (λ kid. kid < count) (λ kid l. omega arith) (kids_of system.nodes n) (sound.older n).in_range
 
-  kids-arity : (name : ℕ) (o : Option Label) → arity_of (plain_label name o) ≡ arity_at o
-  kids-arity name None = refl
-  kids-arity name (Some label) = refl
-
   plain-length : length (plain system names).graph ≡ count
   plain-length = length-map-range_with_len (plain_node system names) 0 count
 
@@ -108,7 +109,7 @@ module _ (system : System) (sound : IsSystem system) (names : ℕ → ℕ) where
       All-from_get_or (IsNode (length (plain system names).graph)) (plain system names).graph free_leaf
       (λ i h. let within : i < count = rw plain-length at h in
       rw (plain-at i within, plain-length)
-      (record { kids = (sound.older (last i)).kids ∙ sym (kids-arity (names (last i)) (label_of system.nodes (last i))); in_range = kids-inside (last i) (last-inside i within) }))
+      (record { kids = (sound.older (last i)).kids ∙ sym (plain-arity (names (last i)) (label_of system.nodes (last i))); in_range = kids-inside (last i) (last-inside i within) }))
 
   plain-ground : IsGround (plain system names).graph
   plain-ground =

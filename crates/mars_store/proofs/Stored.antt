@@ -9,22 +9,8 @@ use Rattle.mars_tree.specs.Graph.{Node, IsNode, IsGraph, label_of, kids_of, free
 use Rattle.mars_store.specs.declared.mark.Mark.{Mark}
 use Rattle.mars_store.specs.System.{System, IsSystem, resolve, IsTriangular, IsUnbound, IsLink, IsMark, equation_of, linked, with_node, undone, rank, rank_of}
 use Rattle.mars_store.specs.Links.{target_of, IsStored}
-use Rattle.mars_store.proofs.Links.{resolve-unbound, resolve-same, resolve-last}
-
--- past the nodes, nothing is asked of a node
-pub leaf_node : (count : ℕ) → IsNode count free_leaf
-leaf_node count = record { kids = refl; in_range = All-nil (λ kid. kid < count) }
-
--- a link between two nodes that stay
-link-moved : (nodes more : List Node) (e : ℕ × ℕ) → e.0 < length more → e.1 < length more
-    → get_or more e.0 free_leaf ≡ get_or nodes e.0 free_leaf → get_or more e.1 free_leaf ≡ get_or nodes e.1 free_leaf → IsLink nodes e → IsLink more e
-link-moved nodes more e h k p q l = record {
-  variable = record { inside = h; free = ap (λ (n : Node). n.label) p ∙ l.variable.free };
-  inside = k;
-  falls =
-      subst (λ (n : Node). rank_of n.label e.1 < rank_of (get_or more e.0 free_leaf).label e.0) (sym q)
-      (subst (λ (n : Node). rank_of (get_or nodes e.1 free_leaf).label e.1 < rank_of n.label e.0) (sym p) l.falls);
-}
+use Rattle.mars_store.proofs.Links.{leaf_node, link-moved, triangular-push, All-front, All-last, resolve-unbound, resolve-same, resolve-last}
+use Rattle.mars_store.proofs.Growing.{system-node}
 
 target_of-unbound : (bound : List (ℕ × ℕ)) (n : ℕ) → IsUnbound bound n → target_of bound n ≡ n
 target_of-unbound [] n h = refl
@@ -64,22 +50,6 @@ target_of-push (e ∷ later) x y n h = go (target_of-push later x y n (All-tail 
     go rest (inl q) = rw (eq-eqb n e.0 q, ne_eqb n x (λ r. hx (sym q ∙ r))) refl
     go rest (inr q) = rw (ne_eqb n e.0 q) rest
 
-triangular-push : (bound : List (ℕ × ℕ)) (x y : ℕ) → IsTriangular bound → IsUnbound bound x → IsUnbound bound y → IsTriangular (bound ++ (x, y) ∷ [])
-triangular-push [] x y t hx hy = (All-nil _, tt)
-triangular-push (e ∷ later) x y t hx hy = (
-  All-push (λ next. (next.0 ≢ e.0) × (next.1 ≢ e.0)) later (x, y) t.0
-      ((λ p. All-head (λ equation. equation.0 ≢ x) e later hx (sym p)), (λ p. All-head (λ equation. equation.0 ≢ y) e later hy (sym p))),
-  triangular-push later x y t.1 (All-tail (λ equation. equation.0 ≢ x) e later hx) (All-tail (λ equation. equation.0 ≢ y) e later hy),
-)
-
-All-front : {X : Type 0} (P : X → Type 0) (xs ys : List X) → All P (xs ++ ys) → All P xs
-All-front P [] ys h = All-nil P
-All-front P (x ∷ xs) ys h = All-cons P x xs (All-head P x (xs ++ ys) h) (All-front P xs ys (All-tail P x (xs ++ ys) h))
-
-All-last : {X : Type 0} (P : X → Type 0) (xs : List X) (x : X) → All P (xs ++ x ∷ []) → P x
-All-last P [] x h = All-head P x [] h
-All-last P (y ∷ xs) x h = All-last P xs x (All-tail P y (xs ++ x ∷ []) h)
-
 triangular-front : (bound : List (ℕ × ℕ)) (x y : ℕ) → IsTriangular (bound ++ (x, y) ∷ []) → IsTriangular bound × IsUnbound bound x
 triangular-front [] x y t = (tt, All-nil _)
 triangular-front (e ∷ later) x y t =
@@ -97,26 +67,13 @@ not-itself nodes bound h =
 pub stored-push : (nodes : List Node) (links : List ℕ) (bound : List (ℕ × ℕ)) (node : Node)
     → IsStored nodes links bound → IsNode (length nodes) node → IsStored (nodes ++ node ∷ []) (links ++ length links ∷ []) bound
 stored-push nodes links bound node st is = record {
-  system = record {
-    older = λ n. older n (cases_lt n (length nodes)) (cases_eq n (length nodes));
-    links = All-weaker (IsLink nodes) (IsLink (nodes ++ node ∷ []))
-        (λ e l. let h = l.variable.inside in let k = l.inside in
-        link-moved nodes (nodes ++ node ∷ []) e (omega (arith, more)) (omega (arith, more))
-        (get_or_append_left nodes (node ∷ []) free_leaf e.0 h) (get_or_append_left nodes (node ∷ []) free_leaf e.1 k) l)
-        bound st.system.links;
-    triangular = st.system.triangular;
-  };
+  system = system-node (record { nodes = nodes; bound = bound }) node st.system is;
   sizes = omega (arith, length-append links (length links ∷ []), more, st.sizes);
   kept = λ n h. linked n (cases_lt n (length links)) (rw (length-append links (length links ∷ [])) at h);
 }
   where
     more : length (nodes ++ node ∷ []) ≡ length nodes + 1
     more = length-append nodes (node ∷ [])
-
-    older : (n : ℕ) → (n < length nodes) ⊎ (length nodes ≤ n) → (n ≡ length nodes) ⊎ (n ≢ length nodes) → IsNode n (get_or (nodes ++ node ∷ []) n free_leaf)
-    older n (inl h) c = rw (get_or_append_left nodes (node ∷ []) free_leaf n h) (st.system.older n)
-    older n (inr h) (inl e) = rw (get_or_at nodes node [] free_leaf n (sym e)) (rw e is)
-    older n (inr h) (inr ne) = rw (get_or_past (nodes ++ node ∷ []) n free_leaf (omega (arith, more))) (leaf_node n)
 
     linked : (n : ℕ) → (n < length links) ⊎ (length links ≤ n) → n < length links + 1 → slice_index (links ++ length links ∷ []) n ≡ target_of bound n
     linked n (inl h) w = get_or_append_left links (length links ∷ []) 0 n h ∙ st.kept n h

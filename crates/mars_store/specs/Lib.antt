@@ -1,3 +1,4 @@
+pub mod Growing
 pub mod Laws
 pub mod Links
 pub mod Marks

@@ -1,4 +1,5 @@
 //! What holds of all solutions of a system, by its one plain valuation: the crates above rest on these laws.
+ghost use Rattle.mars_store.specs.Growing.{EquationSolved, NodeSystem, NodeSolved, NodeLast, NodeContinued, OlderSolved, LargerSolved, TreesStay};
 ghost use Rattle.mars_store.specs.Laws.{PlainSolves, PlainDecides, NewNames, FreeUnforced, DifsIndependent};
 ghost use Rattle.mars_store.specs.Marks.{MarkMade, MarkKept, MarksNest};
 ghost use Rattle.mars_store.specs.Shown.{LabelsShown, LeavesShown, SameShown};
@@ -32,4 +33,25 @@ pub fn marks_nest()
     ensures made { MarkMade }
     ensures kept { MarkKept }
     ensures nest { MarksNest }
+{}
+
+/// The solutions after an equation are exactly those of before that solve it.
+pub fn equation_solved()
+    ensures { EquationSolved }
+{}
+
+/// The solutions after a node are exactly those of before with one tree more: the node's label over its kids' trees,
+/// and for a variable any tree. Each solution of before has such a one, in a graph that was only added to.
+pub fn node_solved()
+    ensures system { NodeSystem }
+    ensures solved { NodeSolved }
+    ensures last { NodeLast }
+    ensures continued { NodeContinued }
+{}
+
+/// A solution of a system that has grown is one of the older system, too, and stays one in a larger graph.
+pub fn older_solved()
+    ensures older { OlderSolved }
+    ensures larger { LargerSolved }
+    ensures trees { TreesStay }
 {}

@@ -7,7 +7,10 @@ mod node_id;
 mod nodes;
 mod store;
 
-pub use laws::{forced_shown, implied_shown, marks_nest, plain_decides, plain_solves};
+pub use laws::{
+    equation_solved, forced_shown, implied_shown, marks_nest, node_solved, older_solved,
+    plain_decides, plain_solves,
+};
 pub use mark::Mark;
 pub use node_id::NodeId;
 pub use store::Store;

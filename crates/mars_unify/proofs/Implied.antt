@@ -8,9 +8,7 @@ use Rattle.mars_store.specs.Valuation.{value, Agree}
 use Rattle.mars_store.specs.System.{System, IsSystem, IsTriangular, IsUnbound, IsLink, rank}
 use Rattle.mars_store.specs.Solutions.{InSol, plain, plain_label, AreNew, constant}
 use Rattle.mars_store.specs.Laws.{new_names}
-use Rattle.mars_store.proofs.Links.{resolve-unbound}
-use Rattle.mars_store.proofs.Solving.{cases-label, plain-value, name-of, same-label}
-use Rattle.mars_store.proofs.Plain.{new_names-new}
+use Rattle.mars_store.proofs.CallerLemmas.{resolve-unbound, cases-label, plain-value, name-of, same-label, new_names-new}
 
 triangular-apart : (bound : List (ℕ × ℕ)) → IsTriangular bound → (i k : ℕ) (d : ℕ × ℕ) → i < k → k < length bound
     → ((get_or bound k d).0 ≢ (get_or bound i d).0) × ((get_or bound k d).1 ≢ (get_or bound i d).0)

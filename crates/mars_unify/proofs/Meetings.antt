@@ -1,17 +1,15 @@
 -- What the meeting of one pair does.
-use Rattle.std.proofs.Common.{◌≡◌, ◌≢◌, ◌⊎◌, ℕ, List, [], ◌∷◌, ◌++◌, length, take, All, Option, Some, None, refl, sym, ap, ap₂, ◌∙◌, subst, arith, inl, inr, length-append, lt-ltb, le-ltb}
-use Rattle.std.proofs.lemmas.Bool.{cases_lt}
-use Rattle.std.proofs.lemmas.List.{take_all, take-take, take-append-le, nil_from_length}
-use Rattle.std.proofs.lemmas.List.Elements.{All-push, All-contains, All-take, Contains-push}
+use Rattle.std.proofs.Common.{◌≡◌, ◌↔◌, ◌≢◌, ℕ, List, [], length, take, All, Option, Some, None, refl, sym, ap, ◌∙◌, subst, arith}
+use Rattle.std.proofs.lemmas.List.{take_all, take-take, nil_from_length}
+use Rattle.std.proofs.lemmas.List.Elements.{All-contains, All-take}
 use Rattle.mars_tree.specs.declared.label.Label.{Label}
 use Rattle.mars_tree.specs.Label.{arity_of}
-use Rattle.mars_tree.specs.Graph.{Node, label_of, kids_of, arity_at}
+use Rattle.mars_tree.specs.Graph.{label_of, kids_of, arity_at}
 use Rattle.mars_store.specs.Valuation.{Valuation, value, Agree}
-use Rattle.mars_store.specs.System.{System, IsSystem, IsUnbound, resolve, rank, equation_of, linked}
+use Rattle.mars_store.specs.System.{System, IsSystem, IsUnbound, resolve, linked}
 use Rattle.mars_store.specs.Solutions.{InSol, over}
 use Rattle.mars_store.specs.Laws.{IsImplied}
-use Rattle.mars_store.proofs.Links.{resolve-unbound}
-use Rattle.mars_store.proofs.Solving.{solution-last, same-label}
+use Rattle.mars_store.proofs.CallerLemmas.{equation_solved, grows-linked, resolve-unbound, solution-last, same-label}
 use Rattle.mars_unify.specs.Met.{with_pair}
 use Rattle.mars_unify.specs.Meeting.{SameAt, AreSame, IsCovered, IsSettled, AreAlike, AreMet, IsMeeting}
 use Rattle.mars_unify.specs.Unified.{AreApart}
@@ -96,81 +94,39 @@ met-same s met a b x y p q sound m e = (
   covered-implied s met a b (λ v sol. agree-ends s v sol a b (record { along = λ path. ap (λ n. value v n path) (sym p ∙ e ∙ q) })),
 )
 
-abbrev with_equation : System → ℕ × ℕ → System
-with_equation s e = record s { bound = s.bound ++ e ∷ [] }
-
-solution-front : (s : System) (e : ℕ × ℕ) (v : Valuation) → InSol (with_equation s e) v → InSol s v
-solution-front s e v sol = record {
-  valuation = sol.valuation;
-  labelled = sol.labelled;
-  bound = subst (All (λ equation. Agree v equation.0 equation.1)) (take-append-le (length s.bound) s.bound (e ∷ []) (omega arith) ∙ take_all (length s.bound) s.bound (omega arith))
-      (All-take (λ equation. Agree v equation.0 equation.1) (length s.bound) (s.bound ++ e ∷ []) sol.bound);
-}
-
-solution-push : (s : System) (e : ℕ × ℕ) (v : Valuation) → InSol s v → Agree v e.0 e.1 → InSol (with_equation s e) v
-solution-push s e v sol h = record {
-  valuation = sol.valuation;
-  labelled = sol.labelled;
-  bound = All-push (λ equation. Agree v equation.0 equation.1) s.bound e sol.bound h;
-}
-
-solution-last_equation : (s : System) (e : ℕ × ℕ) (v : Valuation) → InSol (with_equation s e) v → Agree v e.0 e.1
-solution-last_equation s e v sol = All-contains (λ equation. Agree v equation.0 equation.1) (s.bound ++ e ∷ []) e sol.bound (Contains-push s.bound e)
-
--- an equation of the two ends is added
-meeting-equation : (s : System) (met : List (ℕ × ℕ)) (a b : ℕ) (e : ℕ × ℕ) → IsSystem (with_equation s e) → AreMet s.nodes met
-    → (e ≡ (resolve s.bound a, resolve s.bound b)) ⊎ (e ≡ (resolve s.bound b, resolve s.bound a))
-    → IsMeeting s (with_equation s e) met met (a, b) × IsCovered (with_equation s e) met (a, b)
-meeting-equation s met a b e sound m which = (
+-- an equation is added that is solved just where the ends have the same tree
+meeting-equation : (s : System) (met : List (ℕ × ℕ)) (a b x y : ℕ) → IsSystem (linked s x y) → AreMet s.nodes met
+    → ((v : Valuation) → Agree v (resolve s.bound a) (resolve s.bound b) ↔ Agree v x y)
+    → IsMeeting s (linked s x y) met met (a, b) × IsCovered (linked s x y) met (a, b)
+meeting-equation s met a b x y sound m ends = (
   record {
     nodes = refl;
-    size = omega (arith, length-append s.bound (e ∷ []));
-    front = take-append-le (length s.bound) s.bound (e ∷ []) (omega arith) ∙ take_all (length s.bound) s.bound (omega arith);
+    size = (grows-linked s x y).more_bound;
+    front = (grows-linked s x y).bound;
     system = sound;
-    only = solution-front s e;
-    all = λ v sol same. solution-push s e v sol (to v (ends-agree s v sol a b same));
+    only = λ v sol. ((equation_solved s x y v).0 sol).0;
+    all = λ v sol same. (equation_solved s x y v).1 (sol, (ends v).0 (ends-agree s v sol a b same));
     same = λ v sol same all. all;
     met_size = omega arith;
     met_front = take_all (length met) met (omega arith);
     met = m;
   },
-  covered-implied (with_equation s e) met a b (λ v sol.
-      agree-ends s v (solution-front s e v sol) a b (from v (solution-last_equation s e v sol))),
+  covered-implied (linked s x y) met a b (λ v sol.
+      let was = (equation_solved s x y v).0 sol in agree-ends s v was.0 a b ((ends v).1 was.1)),
 )
-  where
-    to : (v : Valuation) → Agree v (resolve s.bound a) (resolve s.bound b) → Agree v e.0 e.1
-    to v h = elim which [ inl p ↦ rw p h | inr p ↦ rw p (agree-sym v _ _ h) ]
-
-    from : (v : Valuation) → Agree v e.0 e.1 → Agree v (resolve s.bound a) (resolve s.bound b)
-    from v h = elim which [ inl p ↦ rw p at h | inr p ↦ agree-sym v _ _ (rw p at h) ]
-
-equation-cases : (nodes : List Node) (x y : ℕ) → (equation_of nodes x y ≡ (x, y)) ⊎ (equation_of nodes x y ≡ (y, x))
-equation-cases nodes x y =
-    elim (cases_lt (rank nodes y) (rank nodes x)) [
-      | inl h ↦ inl (rw (lt-ltb _ _ h) refl)
-      | inr h ↦ inr (rw (le-ltb _ _ h) refl)
-    ]
 
 -- the end of the first was bound, or that of the second
 pub met-bound : (s t : System) (met : List (ℕ × ℕ)) (a b x y : ℕ) → x ≡ resolve s.bound a → y ≡ resolve s.bound b → IsUnbound s.bound y
     → IsSystem t → AreMet s.nodes met → t ≡ linked s x (resolve s.bound y) → IsMeeting s t met met (a, b) × IsCovered t met (a, b)
 met-bound s t met a b x y p q hy sound m e =
     let e' : t ≡ linked s x y = e ∙ ap (linked s x) (resolve-unbound s.bound y hy) in
-    rw e' (meeting-equation s met a b (equation_of s.nodes x y) (rw e' at sound) m
-    (elim (equation-cases s.nodes x y) [
-      | inl h ↦ inl (h ∙ ap₂ (λ i j. (i, j)) p q)
-      | inr h ↦ inr (h ∙ ap₂ (λ i j. (i, j)) q p)
-    ]))
+    rw e' (meeting-equation s met a b x y (rw e' at sound) m (λ v. (λ h. rw (p, q) h, λ h. rw (p, q) at h)))
 
 pub met-bound_back : (s t : System) (met : List (ℕ × ℕ)) (a b x y : ℕ) → x ≡ resolve s.bound a → y ≡ resolve s.bound b → IsUnbound s.bound x
     → IsSystem t → AreMet s.nodes met → t ≡ linked s y (resolve s.bound x) → IsMeeting s t met met (a, b) × IsCovered t met (a, b)
 met-bound_back s t met a b x y p q hx sound m e =
     let e' : t ≡ linked s y x = e ∙ ap (linked s y) (resolve-unbound s.bound x hx) in
-    rw e' (meeting-equation s met a b (equation_of s.nodes y x) (rw e' at sound) m
-    (elim (equation-cases s.nodes y x) [
-      | inl h ↦ inr (h ∙ ap₂ (λ i j. (i, j)) q p)
-      | inr h ↦ inl (h ∙ ap₂ (λ i j. (i, j)) p q)
-    ]))
+    rw e' (meeting-equation s met a b y x (rw e' at sound) m (λ v. (λ h. rw (p, q) (agree-sym v _ _ h), λ h. agree-sym v _ _ (rw (p, q) at h))))
 
 -- the label of an end
 end-label : (s : System) (x : ℕ) (o : Option Label) → IsUnbound s.bound x → o ≡ label_of s.nodes (resolve s.bound x) → label_of s.nodes x ≡ o

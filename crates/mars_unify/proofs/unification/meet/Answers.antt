@@ -1,5 +1,5 @@
 use Rattle.std.proofs.Common.{◌≡◌, ◌≢◌, ◌∙◌, sym, rules, arith}
-use Rattle.mars_store.proofs.Links.{resolve-unbound}
+use Rattle.mars_store.proofs.CallerLemmas.{resolve-unbound}
 use Rattle.mars_tree.specs.Label.{arity_of}
 use Rattle.mars_unify.proofs.Meetings.{free-end, met-same, met-apart, met-pair, met-leaf, met-bound, met-bound_back}
 use Rattle.mars_unify.proofs.unification.meet.Goals as goal

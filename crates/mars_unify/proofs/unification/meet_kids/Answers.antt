@@ -1,6 +1,6 @@
 use Rattle.std.proofs.Common.{arith}
 use Rattle.std.proofs.lemmas.Bool.{MatchBool-at_true, MatchBool-at_false}
-use Rattle.mars_store.proofs.Marks.{grows-refl, grows-trans}
+use Rattle.mars_store.proofs.CallerLemmas.{grows-refl, grows-trans}
 use Rattle.mars_unify.proofs.Kids.{kids-start, kids-there, kids-step, kids-apart, kids-end}
 use Rattle.mars_unify.proofs.unification.meet_kids.Goals as goal
 

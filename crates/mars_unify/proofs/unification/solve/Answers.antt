@@ -1,6 +1,6 @@
 use Rattle.std.proofs.Common.{refl, length, arith}
 use Rattle.std.proofs.lemmas.Bool.{MatchBool-at_true}
-use Rattle.mars_store.proofs.Marks.{grows-trans}
+use Rattle.mars_store.proofs.CallerLemmas.{grows-trans}
 use Rattle.mars_unify.proofs.Solving.{none-met, solving-step, solving-end, solving-smaller}
 use Rattle.mars_unify.proofs.unification.solve.Goals as goal
 
