@@ -14,7 +14,7 @@ use Rattle.mars_tree.proofs.Paths.{label_from_stands, stands_from_label, label_i
 use Rattle.mars_tree.proofs.Walks.{same_from_bisimulation}
 use Rattle.mars_table.specs.Rows.{Row, row_at, HasRow, kids_of_row, label_of_row, shown_at_row, tree_of, IsRowOf}
 use Rattle.mars_table.specs.Finding.{find_row}
-use Rattle.mars_table.specs.Object.{fresh_before, number_of, fresh_row, fresh_rows}
+use Rattle.mars_table.specs.Object.{fresh_before, row_number, fresh_row, fresh_rows}
 use Rattle.mars_table.specs.Sound.{AreClosed, IsApart}
 use Rattle.mars_table.specs.TableLaws.{InternMeans}
 use Rattle.mars_table.proofs.RowFacts.{some_of, chosen, number_at, kid_is_row}
@@ -96,12 +96,12 @@ module _ (rows : List Row) (next : ℕ) (g : List Node) (closed : AreClosed rows
     (g_is : IsGraph g) (ground : IsGround g) (distinct : (i j : ℕ) → i < length g → j < length g → Same g i g j → i ≡ j) where
   -- node `n` as a row
   abbrev as_row : ℕ → Label → Row
-  as_row n l = record { number = number_of rows next g n; label = l; kids = map (number_of rows next g) (kids_of g n) }
+  as_row n l = record { number = row_number rows next g n; label = l; kids = map (row_number rows next g) (kids_of g n) }
 
-  fresh_number : (n : ℕ) → find_row rows g n ≡ None → number_of rows next g n ≡ next + fresh_before rows g n
+  fresh_number : (n : ℕ) → find_row rows g n ≡ None → row_number rows next g n ≡ next + fresh_before rows g n
   fresh_number n e = ap (λ o. unwrap_or o (next + fresh_before rows g n)) e
 
-  found_number : (n h : ℕ) → find_row rows g n ≡ Some h → number_of rows next g n ≡ h
+  found_number : (n h : ℕ) → find_row rows g n ≡ Some h → row_number rows next g n ≡ h
   found_number n h e = ap (λ o. unwrap_or o (next + fresh_before rows g n)) e
 
   fresh_counts : (n : ℕ) → find_row rows g n ≡ None → fresh_before rows g n + 1 ≡ fresh_before rows g (suc n)
@@ -136,33 +136,33 @@ module _ (rows : List Row) (next : ℕ) (g : List Node) (closed : AreClosed rows
 
   -- the row of a node without a row is found under its number
   fresh_found : (from count n : ℕ) (l : Label) → from + count ≤ length g → from ≤ n → n < from + count → find_row rows g n ≡ None → label_of g n ≡ Some l →
-      row_at (filter_map (fresh_row rows next g) (range_with_len from count)) (number_of rows next g n) ≡ Some (as_row n l)
+      row_at (filter_map (fresh_row rows next g) (range_with_len from count)) (row_number rows next g n) ≡ Some (as_row n l)
   fresh_found from zero n l fits le lt e label = absurd (omega arith)
   fresh_found from (suc count) n l fits le lt e label =
       let rest : List Row = filter_map (fresh_row rows next g) (range_with_len (from + 1) count) in
       elim (none_or_some (find_row rows g from)) [
         | inl none ↦
             let r = fresh_row_is from (omega arith) none in
-            ap (λ o. row_at (cons_option o rest) (number_of rows next g n)) r.2 ∙ elim (cases_eq from n) [
+            ap (λ o. row_at (cons_option o rest) (row_number rows next g n)) r.2 ∙ elim (cases_eq from n) [
               | inl same ↦
                   let a : as_row from r.0 ≡ as_row n l = ap (λ k. as_row k r.0) same ∙ ap (as_row n) (same_Some r.0 l (sym r.1 ∙ ap (label_of g) same ∙ label)) in
-                  let b : nat_eq (number_of rows next g from) (number_of rows next g n) ≡ true = eq-eqb (number_of rows next g from) (number_of rows next g n) (ap (number_of rows next g) same) in
-                  ap (λ c. cond c (Some (as_row from r.0)) (row_at rest (number_of rows next g n))) b ∙ ap (λ row. Some row) a
+                  let b : nat_eq (row_number rows next g from) (row_number rows next g n) ≡ true = eq-eqb (row_number rows next g from) (row_number rows next g n) (ap (row_number rows next g) same) in
+                  ap (λ c. cond c (Some (as_row from r.0)) (row_at rest (row_number rows next g n))) b ∙ ap (λ row. Some row) a
               | inr other ↦
                   let rises : fresh_before rows g from < fresh_before rows g n = fresh_rises from n none (omega arith) in
-                  let ne : nat_eq (number_of rows next g from) (number_of rows next g n) ≡ false = ne_eqb (number_of rows next g from) (number_of rows next g n) (λ same. absurd (omega (arith, rises, same, fresh_number from none, fresh_number n e))) in
-                  ap (λ c. cond c (Some (as_row from r.0)) (row_at rest (number_of rows next g n))) ne ∙ fresh_found (from + 1) count n l (omega arith) (omega arith) (omega arith) e label
+                  let ne : nat_eq (row_number rows next g from) (row_number rows next g n) ≡ false = ne_eqb (row_number rows next g from) (row_number rows next g n) (λ same. absurd (omega (arith, rises, same, fresh_number from none, fresh_number n e))) in
+                  ap (λ c. cond c (Some (as_row from r.0)) (row_at rest (row_number rows next g n))) ne ∙ fresh_found (from + 1) count n l (omega arith) (omega arith) (omega arith) e label
             ]
         | inr some ↦
             let differ : from ≢ n = λ same. none-some some.0 (sym e ∙ ap (find_row rows g) (sym same) ∙ some.1) in
-            ap (λ o. row_at (cons_option o rest) (number_of rows next g n)) (found_no_row from some.0 some.1) ∙ fresh_found (from + 1) count n l (omega arith) (omega (arith, differ)) (omega arith) e label
+            ap (λ o. row_at (cons_option o rest) (row_number rows next g n)) (found_no_row from some.0 some.1) ∙ fresh_found (from + 1) count n l (omega arith) (omega (arith, differ)) (omega arith) e label
       ]
 
-  new_found : (n : ℕ) → n < length g → find_row rows g n ≡ None → (l : Label) × (label_of g n ≡ Some l) × (row_at (rows ++ fresh_rows rows next g) (number_of rows next g n) ≡ Some (as_row n l))
+  new_found : (n : ℕ) → n < length g → find_row rows g n ≡ None → (l : Label) × (label_of g n ≡ Some l) × (row_at (rows ++ fresh_rows rows next g) (row_number rows next g n) ≡ Some (as_row n l))
   new_found n n_in e =
       let r = fresh_row_is n n_in e in
-      let past : next ≤ number_of rows next g n = omega (arith, fresh_number n e) in
-      (r.0, r.1, new_row rows (fresh_rows rows next g) (number_of rows next g n) next below past ∙ fresh_found 0 (length g) n r.0 (omega arith) (omega arith) (omega arith) e r.1)
+      let past : next ≤ row_number rows next g n = omega (arith, fresh_number n e) in
+      (r.0, r.1, new_row rows (fresh_rows rows next g) (row_number rows next g n) next below past ∙ fresh_found 0 (length g) n r.0 (omega arith) (omega arith) (omega arith) e r.1)
 
   -- an old row has its label and its kids
   pub old_has : (h : ℕ) → HasRow rows h → HasRow (rows ++ fresh_rows rows next g) h × (label_of_row (rows ++ fresh_rows rows next g) h ≡ label_of_row rows h) × (kids_of_row (rows ++ fresh_rows rows next g) h ≡ kids_of_row rows h)
@@ -187,14 +187,14 @@ module _ (rows : List Row) (next : ℕ) (g : List Node) (closed : AreClosed rows
   found_is : (n h : ℕ) → n < length g → find_row rows g n ≡ Some h → HasRow rows h × IsRowOf rows h g n
   found_is n h n_in e = (find_means rows g n h closed apart g_is ground n_in).0 e
 
-  found_kids : (n h : ℕ) → n < length g → find_row rows g n ≡ Some h → (label_of_row rows h ≡ label_of g n) × (kids_of_row rows h ≡ map (number_of rows next g) (kids_of g n))
+  found_kids : (n h : ℕ) → n < length g → find_row rows g n ≡ Some h → (label_of_row rows h ≡ label_of g n) × (kids_of_row rows h ≡ map (row_number rows next g) (kids_of g n))
   found_kids n h n_in e =
       let is = found_is n h n_in e in
       let shown : shown_at_row rows h ≡ shown_at g n = same_Some (shown_at_row rows h) (shown_at g n) (is.1 []) in (
         label_from_stands (label_of_row rows h) (label_of g n) h n shown,
-        list_from_gets (kids_of_row rows h) (map (number_of rows next g) (kids_of g n)) (counted rows g closed g_is ground h n is.0 n_in shown ∙ sym (length-map (kids_of g n) (number_of rows next g)))
+        list_from_gets (kids_of_row rows h) (map (row_number rows next g) (kids_of g n)) (counted rows g closed g_is ground h n is.0 n_in shown ∙ sym (length-map (kids_of g n) (row_number rows next g)))
             (λ k x z left right.
-            let y = map_get (number_of rows next g) (kids_of g n) k z right in
+            let y = map_get (row_number rows next g) (kids_of g n) k z right in
             let y_in : y.0 < length g = kid_in g n k y.0 g_is n_in y.1 in
             let tree : IsRowOf rows x g y.0 = λ path.
             let a : tree_of rows h (k ∷ path) ≡ tree_of rows x path = rw left refl in
@@ -205,37 +205,37 @@ module _ (rows : List Row) (next : ℕ) (g : List Node) (closed : AreClosed rows
       )
 
   -- each node has a row under its number, with its label and the numbers of its kids
-  pub has_number : (n : ℕ) → n < length g → HasRow (rows ++ fresh_rows rows next g) (number_of rows next g n) × (label_of_row (rows ++ fresh_rows rows next g) (number_of rows next g n) ≡ label_of g n)
-      × (kids_of_row (rows ++ fresh_rows rows next g) (number_of rows next g n) ≡ map (number_of rows next g) (kids_of g n))
+  pub has_number : (n : ℕ) → n < length g → HasRow (rows ++ fresh_rows rows next g) (row_number rows next g n) × (label_of_row (rows ++ fresh_rows rows next g) (row_number rows next g n) ≡ label_of g n)
+      × (kids_of_row (rows ++ fresh_rows rows next g) (row_number rows next g n) ≡ map (row_number rows next g) (kids_of g n))
   has_number n n_in = elim (none_or_some (find_row rows g n)) [
     | inl none ↦
         let r = new_found n n_in none in
         (subst (λ (o : Option Row). IsSome o) (sym r.2) refl, ap (option_map (λ (row : Row). row.label)) r.2 ∙ sym r.1, ap (λ o. unwrap_or (option_map (λ (row : Row). row.kids) o) []) r.2)
     | inr some ↦
-        let e : some.0 ≡ number_of rows next g n = sym (found_number n some.0 some.1) in
+        let e : some.0 ≡ row_number rows next g n = sym (found_number n some.0 some.1) in
         let old = old_has some.0 (found_is n some.0 n_in some.1).0 in
         let kids = found_kids n some.0 n_in some.1 in
         subst (λ (h : ℕ). HasRow (rows ++ fresh_rows rows next g) h × (label_of_row (rows ++ fresh_rows rows next g) h ≡ label_of g n)
-        × (kids_of_row (rows ++ fresh_rows rows next g) h ≡ map (number_of rows next g) (kids_of g n))) e (old.0, old.1 ∙ kids.0, old.2 ∙ kids.1)
+        × (kids_of_row (rows ++ fresh_rows rows next g) h ≡ map (row_number rows next g) (kids_of g n))) e (old.0, old.1 ∙ kids.0, old.2 ∙ kids.1)
   ]
 
   -- the tree of its number is that of the node
-  number_tree : (n : ℕ) → n < length g → IsRowOf (rows ++ fresh_rows rows next g) (number_of rows next g n) g n
+  number_tree : (n : ℕ) → n < length g → IsRowOf (rows ++ fresh_rows rows next g) (row_number rows next g n) g n
   number_tree n n_in =
       same_from_bisimulation (kids_of_row (rows ++ fresh_rows rows next g)) (shown_at_row (rows ++ fresh_rows rows next g)) (kids_of g) (shown_at g)
-      (λ i j. (j < length g) × (i ≡ number_of rows next g j)) (record {
+      (λ i j. (j < length g) × (i ≡ row_number rows next g j)) (record {
         shown = λ i j r.
             let is = has_number j r.0 in
             let label : label_of_row (rows ++ fresh_rows rows next g) i ≡ label_of g j = ap (label_of_row (rows ++ fresh_rows rows next g)) r.1 ∙ is.1 in
             sym (stands_from_label (label_of g j) (label_of_row (rows ++ fresh_rows rows next g) i) j i (sym label) (label_in g j ground r.0));
-        count = λ i j r. ap (λ h. length (kids_of_row (rows ++ fresh_rows rows next g) h)) r.1 ∙ ap length (has_number j r.0).2 ∙ length-map (kids_of g j) (number_of rows next g);
+        count = λ i j r. ap (λ h. length (kids_of_row (rows ++ fresh_rows rows next g) h)) r.1 ∙ ap length (has_number j r.0).2 ∙ length-map (kids_of g j) (row_number rows next g);
         follows = λ i j k x y r left right.
-            let z = map_get (number_of rows next g) (kids_of g j) k x (ap (λ xs. slice_get xs k) (sym (has_number j r.0).2) ∙ ap (λ h. slice_get (kids_of_row (rows ++ fresh_rows rows next g) h) k) (sym r.1) ∙ left) in
-            (kid_in g j k y g_is r.0 right, sym z.2 ∙ ap (number_of rows next g) (same_Some z.0 y (sym z.1 ∙ right)));
-      }) (number_of rows next g n) n (n_in, refl)
+            let z = map_get (row_number rows next g) (kids_of g j) k x (ap (λ xs. slice_get xs k) (sym (has_number j r.0).2) ∙ ap (λ h. slice_get (kids_of_row (rows ++ fresh_rows rows next g) h) k) (sym r.1) ∙ left) in
+            (kid_in g j k y g_is r.0 right, sym z.2 ∙ ap (row_number rows next g) (same_Some z.0 y (sym z.1 ∙ right)));
+      }) (row_number rows next g n) n (n_in, refl)
 
   -- a row is an old one, or that of a node without one
-  pub old_or_node : (h : ℕ) → HasRow (rows ++ fresh_rows rows next g) h → HasRow rows h ⊎ ((n : ℕ) × (n < length g) × (find_row rows g n ≡ None) × (number_of rows next g n ≡ h))
+  pub old_or_node : (h : ℕ) → HasRow (rows ++ fresh_rows rows next g) h → HasRow rows h ⊎ ((n : ℕ) × (n < length g) × (find_row rows g n ≡ None) × (row_number rows next g n ≡ h))
   old_or_node h has = elim (old_or_new rows (fresh_rows rows next g) h has) [
     | inl old ↦ inl old
     | inr new ↦
@@ -262,7 +262,7 @@ module _ (rows : List Row) (next : ℕ) (g : List Node) (closed : AreClosed rows
       | inr w ↦
           let one : v.0 ≡ w.0 = distinct v.0 w.0 v.1 w.1 (λ path.
           sym (number_tree v.0 v.1 path) ∙ ap (λ h. tree_of (rows ++ fresh_rows rows next g) h path) v.3 ∙ same path ∙ ap (λ h. tree_of (rows ++ fresh_rows rows next g) h path) (sym w.3) ∙ number_tree w.0 w.1 path) in
-          sym v.3 ∙ ap (number_of rows next g) one ∙ w.3
+          sym v.3 ∙ ap (row_number rows next g) one ∙ w.3
     ]
   ]
     where
@@ -280,15 +280,15 @@ module _ (rows : List Row) (next : ℕ) (g : List Node) (closed : AreClosed rows
     count = All-append (λ row. length row.kids ≡ arity_of row.label) rows (fresh_rows rows next g) closed.count
         (all_from_range (λ row. length row.kids ≡ arity_of row.label) (fresh_row rows next g) 0 (length g) (λ n row lt e.
         let r = from_fresh n row (omega (arith, lt)) e in
-        subst (λ (x : Row). length x.kids ≡ arity_of x.label) r.2 (length-map (kids_of g n) (number_of rows next g) ∙ (node_in g n g_is (omega (arith, lt))).kids ∙ ap arity_at r.1)));
+        subst (λ (x : Row). length x.kids ≡ arity_of x.label) r.2 (length-map (kids_of g n) (row_number rows next g) ∙ (node_in g n g_is (omega (arith, lt))).kids ∙ ap arity_at r.1)));
     kids = All-append (λ row. All (HasRow (rows ++ fresh_rows rows next g)) row.kids) rows (fresh_rows rows next g)
         (All-weaker (λ row. All (HasRow rows) row.kids) (λ row. All (HasRow (rows ++ fresh_rows rows next g)) row.kids)
         (λ row all. All-weaker (HasRow rows) (HasRow (rows ++ fresh_rows rows next g)) (λ h has. (old_has h has).0) row.kids all) rows closed.kids)
         (all_from_range (λ row. All (HasRow (rows ++ fresh_rows rows next g)) row.kids) (fresh_row rows next g) 0 (length g) (λ n row lt e.
         let r = from_fresh n row (omega (arith, lt)) e in
         subst (λ (x : Row). All (HasRow (rows ++ fresh_rows rows next g)) x.kids) r.2
-        (All-map (HasRow (rows ++ fresh_rows rows next g)) (number_of rows next g) (kids_of g n)
-        (All-weaker (λ y. y < length g) (λ y. HasRow (rows ++ fresh_rows rows next g) (number_of rows next g y)) (λ y y_in. (has_number y y_in).0) (kids_of g n) (node_in g n g_is (omega (arith, lt))).in_range))));
+        (All-map (HasRow (rows ++ fresh_rows rows next g)) (row_number rows next g) (kids_of g n)
+        (All-weaker (λ y. y < length g) (λ y. HasRow (rows ++ fresh_rows rows next g) (row_number rows next g y)) (λ y y_in. (has_number y y_in).0) (kids_of g n) (node_in g n g_is (omega (arith, lt))).in_range))));
   }
 
 pub intern_means : InternMeans

@@ -10,8 +10,8 @@ use Rattle.std.proofs.lemmas.List.FromFn.{get_or-map-range_with_len, length-rang
 use Rattle.mars_tree.specs.Graph.{Node, IsGraph, IsGround, label_of, kids_of, free_leaf}
 use Rattle.mars_tree.proofs.Paths.{kid_in, label_in}
 use Rattle.mars_table.specs.Finding.{find_row}
-use Rattle.mars_table.specs.Fresh.{fresh_nodes}
-use Rattle.mars_table.specs.Object.{fresh_before, number_of, fresh_row}
+use Rattle.mars_table.specs.FreshInside.{fresh_nodes}
+use Rattle.mars_table.specs.Object.{fresh_before, row_number, fresh_row}
 use Rattle.mars_reach.specs.Order.{renumbered_node, renumbered}
 use Rattle.mars_table.specs.Renumber.{at_places}
 use Rattle.mars_table.specs.Renumber.{HasLabels, KidsFit}
@@ -71,43 +71,43 @@ module _ (rows : List Row) (next : ℕ) (g : List Node) where
   ]
 
   -- the nodes that are fresh, under their numbers, are the fresh rows
-  pub rows_fresh : (a count b : ℕ) → b ≡ next + fresh_before rows g a → rows_from b (renumbered g (number_of rows next g) (filter (λ m. is_none (find_row rows g m)) (range_with_len a count))) ≡ filter_map (fresh_row rows next g) (range_with_len a count)
+  pub rows_fresh : (a count b : ℕ) → b ≡ next + fresh_before rows g a → rows_from b (renumbered g (row_number rows next g) (filter (λ m. is_none (find_row rows g m)) (range_with_len a count))) ≡ filter_map (fresh_row rows next g) (range_with_len a count)
   rows_fresh a zero b e = refl
   rows_fresh a (suc count) b e = elim (none_or_some (find_row rows g a)) [
     | inl none ↦
-        let number : b ≡ number_of rows next g a = e ∙ ap (λ (o : Option ℕ). unwrap_or o (next + fresh_before rows g a)) (sym none) in
-        let here : as_row b (renumbered_node g (number_of rows next g) a) ≡ fresh_row rows next g a =
-        ap (λ n. as_row n (renumbered_node g (number_of rows next g) a)) number
-        ∙ ap (λ (o : Option ℕ). cond (is_none o) (as_row (number_of rows next g a) (renumbered_node g (number_of rows next g) a)) None) (sym none) in
+        let number : b ≡ row_number rows next g a = e ∙ ap (λ (o : Option ℕ). unwrap_or o (next + fresh_before rows g a)) (sym none) in
+        let here : as_row b (renumbered_node g (row_number rows next g) a) ≡ fresh_row rows next g a =
+        ap (λ n. as_row n (renumbered_node g (row_number rows next g) a)) number
+        ∙ ap (λ (o : Option ℕ). cond (is_none o) (as_row (row_number rows next g a) (renumbered_node g (row_number rows next g) a)) None) (sym none) in
         let kept : filter (λ m. is_none (find_row rows g m)) (range_with_len a (suc count)) ≡ a ∷ filter (λ m. is_none (find_row rows g m)) (range_with_len (a + 1) count) =
         ap (λ (o : Option ℕ). cond (is_none o) (a ∷ filter (λ m. is_none (find_row rows g m)) (range_with_len (a + 1) count)) (filter (λ m. is_none (find_row rows g m)) (range_with_len (a + 1) count))) none in
-        ap (λ ns. rows_from b (renumbered g (number_of rows next g) ns)) kept
-        ∙ ap (λ (o : Option Row). cons_option o (rows_from (b + 1) (renumbered g (number_of rows next g) (filter (λ m. is_none (find_row rows g m)) (range_with_len (a + 1) count))))) here
+        ap (λ ns. rows_from b (renumbered g (row_number rows next g) ns)) kept
+        ∙ ap (λ (o : Option Row). cons_option o (rows_from (b + 1) (renumbered g (row_number rows next g) (filter (λ m. is_none (find_row rows g m)) (range_with_len (a + 1) count))))) here
         ∙ ap (cons_option (fresh_row rows next g a)) (rows_fresh (a + 1) count (b + 1) (omega (arith, e, before_none a none)))
     | inr some ↦
         let gone : ◌≡◌ {A = Option Row} None (fresh_row rows next g a) =
-        ap (λ (o : Option ℕ). cond (is_none o) (as_row (number_of rows next g a) (renumbered_node g (number_of rows next g) a)) None) (sym some.1) in
+        ap (λ (o : Option ℕ). cond (is_none o) (as_row (row_number rows next g a) (renumbered_node g (row_number rows next g) a)) None) (sym some.1) in
         let kept : filter (λ m. is_none (find_row rows g m)) (range_with_len a (suc count)) ≡ filter (λ m. is_none (find_row rows g m)) (range_with_len (a + 1) count) =
         ap (λ (o : Option ℕ). cond (is_none o) (a ∷ filter (λ m. is_none (find_row rows g m)) (range_with_len (a + 1) count)) (filter (λ m. is_none (find_row rows g m)) (range_with_len (a + 1) count))) some.1 in
-        ap (λ ns. rows_from b (renumbered g (number_of rows next g) ns)) kept
+        ap (λ ns. rows_from b (renumbered g (row_number rows next g) ns)) kept
         ∙ rows_fresh (a + 1) count b (omega (arith, e, before_some a some.0 some.1))
         ∙ ap (λ (o : Option Row). cons_option o (filter_map (fresh_row rows next g) (range_with_len (a + 1) count))) gone
   ]
 
-  pub numbers_more : (n : ℕ) → map (number_of rows next g) (range_with_len 0 (n + 1)) ≡ map (number_of rows next g) (range_with_len 0 n) ++ number_of rows next g n ∷ []
+  pub numbers_more : (n : ℕ) → map (row_number rows next g) (range_with_len 0 (n + 1)) ≡ map (row_number rows next g) (range_with_len 0 n) ++ row_number rows next g n ∷ []
   numbers_more n =
       let zero_n : 0 + n ≡ n = omega arith in
-      ap (map (number_of rows next g)) (range_more 0 n ∙ ap (λ x. range_with_len 0 n ++ x ∷ []) zero_n) ∙ map-append (number_of rows next g) (range_with_len 0 n) (n ∷ [])
+      ap (map (row_number rows next g)) (range_more 0 n ∙ ap (λ x. range_with_len 0 n ++ x ∷ []) zero_n) ∙ map-append (row_number rows next g) (range_with_len 0 n) (n ∷ [])
 
   -- a node that is found, and one that isn't
-  pub number_some : (n h : ℕ) → find_row rows g n ≡ Some h → number_of rows next g n ≡ h
+  pub number_some : (n h : ℕ) → find_row rows g n ≡ Some h → row_number rows next g n ≡ h
   number_some n h e = ap (λ (o : Option ℕ). unwrap_or o (next + fresh_before rows g n)) e
 
-  pub number_none : (n : ℕ) → find_row rows g n ≡ None → number_of rows next g n ≡ next + fresh_before rows g n
+  pub number_none : (n : ℕ) → find_row rows g n ≡ None → row_number rows next g n ≡ next + fresh_before rows g n
   number_none n e = ap (λ (o : Option ℕ). unwrap_or o (next + fresh_before rows g n)) e
 
   -- a number is that of an old row or of a fresh one
-  pub number_below : (n count : ℕ) → n < count → ((h : ℕ) → find_row rows g n ≡ Some h → h < next) → number_of rows next g n < next + fresh_before rows g count
+  pub number_below : (n count : ℕ) → n < count → ((h : ℕ) → find_row rows g n ≡ Some h → h < next) → row_number rows next g n < next + fresh_before rows g count
   number_below n count lt old = elim (none_or_some (find_row rows g n)) [
     | inl e ↦
         let a : fresh_before rows g (n + 1) ≤ fresh_before rows g count = before_rises (n + 1) count (omega (arith, lt)) in

@@ -1,13 +1,10 @@
 -- A graph of rows that has grown by the fresh nodes of a tree.
 use Rattle.std.proofs.Common.{◌≡◌, ℕ, zero, suc, ◌<◌, ◌≤◌, ◌+◌, Bool, true, false, cond, is_none, List, [], ◌∷◌, ◌++◌, length, Option, Some, None, refl, sym, subst, ap, ◌∙◌, arith}
-use Rattle.std.specs.List.{cons_option, flat_map}
-use Rattle.std.proofs.lemmas.List.Elements.{All-head}
-use Rattle.mars_tree.specs.Canonical.{mentions}
-use Rattle.mars_tree.proofs.Numbering.{known_after_bounds}
+use Rattle.std.specs.List.{cons_option}
 use Rattle.mars_table.specs.Finding.{find_row}
 use Rattle.mars_tree.specs.Graph.{Node, IsGraph, IsGround}
 use Rattle.mars_table.specs.Rows.{Row, HasRow, SameRow}
-use Rattle.mars_table.specs.Object.{number_of, fresh_before, fresh_rows}
+use Rattle.mars_table.specs.Object.{row_number, fresh_before, fresh_rows}
 use Rattle.mars_reach.specs.Part.{IsReduced}
 use Rattle.mars_table.specs.TableInside.{as_row, rows_from, rows_of}
 use Rattle.mars_table.specs.TableLaws.{InternsTrees}
@@ -39,9 +36,9 @@ module _ (g tree grown : List Node) (g_is : IsGraph g) (ground : IsGround g) (ap
       (subst (λ (rows : List Row). SameRow rows i rows j) e (λ path. tree_stored grown grown_is grown_ground i i_in path ∙ same path ∙ sym (tree_stored grown grown_is grown_ground j j_in path)))
 
   -- each node of the tree has the number of a node
-  pub number_in : (n : ℕ) → n < length tree → number_of (rows_of g) (length g) tree n < length grown
+  pub number_in : (n : ℕ) → n < length tree → row_number (rows_of g) (length g) tree n < length grown
   number_in n n_in =
-      let h : ℕ = number_of (rows_of g) (length g) tree n in
+      let h : ℕ = row_number (rows_of g) (length g) tree n in
       stored_in grown grown_is grown_ground h (subst (λ (rows : List Row). HasRow rows h) (sym e) (interned.trees n n_in).0)
 
 -- not more nodes are fresh than there are
@@ -52,7 +49,3 @@ fresh_within rows tree (suc n) = either (is_none (find_row rows tree n)) (fresh_
     either : (b : Bool) → fresh_before rows tree n ≤ n → fresh_before rows tree n + cond b 1 0 ≤ suc n
     either true le = omega (arith, le)
     either false le = omega (arith, le)
-
--- a tree has a root
-pub tree_some : (tree : List Node) → IsTreeGraph tree → 0 < length tree
-tree_some tree is = All-head (λ x. x < length tree) 0 (flat_map (λ (node : Node). node.kids) tree) (known_after_bounds 0 (length tree) (mentions (0 ∷ []) tree) is.canonical.numbered.in_order).1

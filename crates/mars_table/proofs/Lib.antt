@@ -1,7 +1,7 @@
 pub mod Added
+pub mod CallerLemmas
 pub mod Distinct
 pub mod Found
-pub mod FromCanon
 pub mod FoundNodes
 pub mod FreshRows
 pub mod Grown
@@ -12,4 +12,5 @@ pub mod StaysSound
 pub mod Stored
 pub mod SweepsSound
 pub mod Swept
+pub mod TreeFacts
 pub mod WithFresh

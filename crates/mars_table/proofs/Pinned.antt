@@ -1,4 +1,4 @@
--- Rows that walks from pins meet, behind an interning and behind a sweep.
+-- Rows that walks from pins meet, after an interning and after a sweep.
 use Rattle.std.proofs.Common.{◌≡◌, ℕ, zero, suc, ◌<◌, ◌+◌, Bool, true, false, cond, nat_eq, nat_lt, List, [], ◌∷◌, ◌++◌, length, take, filter, Option, Some, None, option_and_then, slice_get, refl, sym, subst, ap, ◌∙◌, arith, inl, inr, All, IsSome, Contains, eq-eqb}
 use Rattle.std.specs.Option.{option_map}
 use Rattle.std.specs.List.{flat_map}
@@ -10,44 +10,17 @@ use Rattle.mars_tree.proofs.Walks.{walk-push}
 use Rattle.mars_tree.proofs.Paths.{kid_in}
 use Rattle.mars_tree.proofs.Unique.{roots_in}
 use Rattle.mars_table.specs.Rows.{Row, row_at, HasRow, kids_of_row, row_end, IsRowOf}
-use Rattle.mars_table.specs.Object.{TableObject, fresh_before, fresh_rows, number_of, sweep, is_met}
+use Rattle.mars_table.specs.Object.{TableObject, fresh_before, fresh_rows, row_number, sweep, is_met}
 use Rattle.mars_table.specs.Object.{intern}
 use Rattle.mars_table.specs.TreeGraph.{IsTreeGraph}
 use Rattle.mars_table.specs.Object.Interned.{kept, full}
 use Rattle.mars_table.specs.Sound.{AreClosed, IsApart, IsMet}
 use Rattle.mars_table.specs.Lasting.{KeepsTrees, InternKeepsTrees}
 use Rattle.mars_table.specs.Met.{AreAllMet, InternKeepsMet, SweepKeepsMet}
+use Rattle.mars_table.proofs.TreeFacts.{tree_some, reached_below}
 use Rattle.mars_table.proofs.RowFacts.{some_of, number_at, kid_is_row, All-find}
 use Rattle.mars_table.proofs.Added.{old_has, has_number, old_or_node, intern_means}
 use Rattle.mars_table.proofs.Swept.{sweep_means}
-
-contains_get : (xs : List ℕ) (x : ℕ) → Contains xs x → (k : ℕ) × (slice_get xs k ≡ Some x)
-contains_get xs x (k, lt, e) = (k, slice_get-get_or xs k x lt ∙ ap (λ y. Some y) e)
-
--- a kid of one of the first nodes
-kid_of_first : (g : List Node) (i x : ℕ) → Contains (flat_map (λ node. node.kids) (take i g)) x → (m : ℕ) × (m < i) × (m < length g) × (k : ℕ) × (slice_get (kids_of g m) k ≡ Some x)
-kid_of_first [] zero x c = absurd (let k = contains_get [] x c in let e : None ≡ Some x = k.1 in cc)
-kid_of_first [] (suc i) x c = absurd (let k = contains_get [] x c in let e : None ≡ Some x = k.1 in cc)
-kid_of_first (node ∷ g) zero x c = absurd (let k = contains_get [] x c in let e : None ≡ Some x = k.1 in cc)
-kid_of_first (node ∷ g) (suc i) x c = elim (Contains-append_cases node.kids (flat_map (λ node. node.kids) (take i g)) x c) [
-  | inl here ↦ let k = contains_get node.kids x here in (0, omega arith, omega arith, k.0, k.1)
-  | inr there ↦ let r = kid_of_first g i x there in (suc r.0, omega (arith, r.1), omega (arith, r.2), r.3, r.4)
-]
-
--- each node of a canonical graph is at the end of a path from the root
-reached_below : (g : List Node) → IsCanonical g (0 ∷ []) → (bound i : ℕ) → i < bound → i < length g → (path : List ℕ) × (end_of g 0 path ≡ Some i)
-reached_below g is zero i lt i_in = absurd (omega arith)
-reached_below g is (suc bound) i lt i_in = elim (Contains-append_cases (0 ∷ []) (flat_map (λ node. node.kids) (take i g)) i (is.numbered.early i i_in)) [
-  | inl root ↦ first (contains_get (0 ∷ []) i root)
-  | inr kid ↦
-      let m = kid_of_first g i i kid in
-      let r = reached_below g is bound m.0 (omega (arith, m.1)) m.2 in
-      (r.0 ++ m.3 ∷ [], walk-push (kids_of g) 0 m.0 i m.3 r.0 r.1 m.4)
-]
-  where
-    first : (k : ℕ) × (slice_get (0 ∷ []) k ≡ Some i) → (path : List ℕ) × (end_of g 0 path ≡ Some i)
-    first (zero, e) = ([], e)
-    first (suc k, e) = absurd (let e' : None ≡ Some i = e in cc)
 
 module _ (rows : List Row) (next : ℕ) (g : List Node) (closed : AreClosed rows) (apart : IsApart rows) (below : All (λ row. row.number < next) rows)
     (g_is : IsGraph g) (ground : IsGround g) (distinct : (i j : ℕ) → i < length g → j < length g → Same g i g j → i ≡ j) where
@@ -61,19 +34,19 @@ module _ (rows : List Row) (next : ℕ) (g : List Node) (closed : AreClosed rows
       stays path m h (kid_is_row rows n k m closed has first) rest)
 
   -- a walk over nodes is one over their rows
-  carries : (path : List ℕ) (a b : ℕ) → a < length g → end_of g a path ≡ Some b → row_end (rows ++ fresh_rows rows next g) (number_of rows next g a) path ≡ Some (number_of rows next g b)
-  carries [] a b a_in e = ap (λ n. Some (number_of rows next g n)) (same_Some a b e)
+  carries : (path : List ℕ) (a b : ℕ) → a < length g → end_of g a path ≡ Some b → row_end (rows ++ fresh_rows rows next g) (row_number rows next g a) path ≡ Some (row_number rows next g b)
+  carries [] a b a_in e = ap (λ n. Some (row_number rows next g n)) (same_Some a b e)
   carries (k ∷ path) a b a_in e =
       option_and_then_some (λ m. end_of g m path) (slice_get (kids_of g a) k) b e (λ m first rest.
       ap (λ xs. option_and_then (λ kid. row_end (rows ++ fresh_rows rows next g) kid path) (slice_get xs k)) (has_number rows next g closed apart below g_is ground distinct a a_in).2 ∙
-      ap (option_and_then (λ kid. row_end (rows ++ fresh_rows rows next g) kid path)) (slice_get-map (number_of rows next g) (kids_of g a) k ∙ ap (option_map (number_of rows next g)) first) ∙
+      ap (option_and_then (λ kid. row_end (rows ++ fresh_rows rows next g) kid path)) (slice_get-map (row_number rows next g) (kids_of g a) k ∙ ap (option_map (row_number rows next g)) first) ∙
       carries path m b (kid_in g a k m g_is a_in first) rest)
 
--- the table behind an interning: the fresh rows and the pin
+-- the table after an interning: the fresh rows and the pin
 abbrev pub grown : TableObject → ℕ → List Node → TableObject
 grown t who g = record {
   rows = t.rows ++ fresh_rows t.rows t.next g;
-  pins = t.pins ++ (who, number_of t.rows t.next g 0) ∷ [];
+  pins = t.pins ++ (who, row_number t.rows t.next g 0) ∷ [];
   next = t.next + fresh_before t.rows g (length g);
   limit = t.limit;
 }
@@ -82,19 +55,15 @@ chosen_kept : (b : Bool) (r f l root h : ℕ) (new t : TableObject) → cond b (
 chosen_kept true r f l root h new t e = absurd cc
 chosen_kept false r f l root h new t e = (cc, cc)
 
-pub intern_kept : (t new : TableObject) (who h : ℕ) (g : List Node) → intern t who g ≡ kept h new → (number_of t.rows t.next g 0 ≡ h) × (grown t who g ≡ new)
+pub intern_kept : (t new : TableObject) (who h : ℕ) (g : List Node) → intern t who g ≡ kept h new → (row_number t.rows t.next g 0 ≡ h) × (grown t who g ≡ new)
 intern_kept t new who h g e =
-    chosen_kept (nat_lt t.limit (length t.rows + fresh_before t.rows g (length g))) (length t.rows) (fresh_before t.rows g (length g)) t.limit (number_of t.rows t.next g 0) h (grown t who g) new e
-
--- the root is a node
-root_in : (g : List Node) → IsTreeGraph g → 0 < length g
-root_in g is = All-contains (λ r. r < length g) (0 ∷ []) 0 (roots_in g (0 ∷ []) is.canonical) (0, omega arith, refl)
+    chosen_kept (nat_lt t.limit (length t.rows + fresh_before t.rows g (length g))) (length t.rows) (fresh_before t.rows g (length g)) t.limit (row_number t.rows t.next g 0) h (grown t who g) new e
 
 pub intern_keeps_trees : InternKeepsTrees
 intern_keeps_trees t new who h g sound is e =
     let k = intern_kept t new who h g e in
     let m = intern_means t.rows t.next g sound.closed sound.apart sound.below is.graph is.labels is.canonical.distinct in
-    let root = m.trees 0 (root_in g is) in (
+    let root = m.trees 0 (tree_some g is) in (
       subst (λ (n : TableObject). KeepsTrees t n) k.1 (λ n has. ((old_has t.rows t.next g sound.closed sound.apart sound.below is.graph is.labels is.canonical.distinct n has).0, m.kept n has)),
       subst (λ (n : TableObject). HasRow n.rows h) k.1 (subst (λ (i : ℕ). HasRow (grown t who g).rows i) k.0 root.0),
       subst (λ (n : TableObject). IsRowOf n.rows h g 0) k.1 (subst (λ (i : ℕ). IsRowOf (grown t who g).rows i g 0) k.0 root.1),
@@ -107,7 +76,7 @@ intern_keeps_met t new who h g sound met is e =
       | inl old ↦
           let m = met n old in record {
             pin = m.pin;
-            pinned = Contains-append_left t.pins ((who, number_of t.rows t.next g 0) ∷ []) m.pin m.pinned;
+            pinned = Contains-append_left t.pins ((who, row_number t.rows t.next g 0) ∷ []) m.pin m.pinned;
             path = m.path;
             meets = stays t.rows t.next g sound.closed sound.apart sound.below is.graph is.labels is.canonical.distinct m.path m.pin.1 n
                 (All-contains (λ (pin : ℕ × ℕ). HasRow t.rows pin.1) t.pins m.pin sound.pins m.pinned) m.meets;
@@ -115,10 +84,10 @@ intern_keeps_met t new who h g sound met is e =
       | inr w ↦
           let r = reached_below g is.canonical (suc w.0) w.0 (omega arith) w.1 in
           record {
-            pin = (who, number_of t.rows t.next g 0);
-            pinned = Contains-push t.pins (who, number_of t.rows t.next g 0);
+            pin = (who, row_number t.rows t.next g 0);
+            pinned = Contains-push t.pins (who, row_number t.rows t.next g 0);
             path = r.0;
-            meets = carries t.rows t.next g sound.closed sound.apart sound.below is.graph is.labels is.canonical.distinct r.0 0 w.0 (root_in g is) r.1 ∙ ap (λ n. Some n) w.3;
+            meets = carries t.rows t.next g sound.closed sound.apart sound.below is.graph is.labels is.canonical.distinct r.0 0 w.0 (tree_some g is) r.1 ∙ ap (λ n. Some n) w.3;
           }
     ] in
     subst AreAllMet (intern_kept t new who h g e).1 by

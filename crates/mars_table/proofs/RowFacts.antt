@@ -1,57 +1,15 @@
 -- Rows by their numbers.
 use Rattle.std.proofs.Common.{◌≡◌, ◌≢◌, ℕ, suc, ◌<◌, Bool, true, false, cond, nat_eq, List, [], ◌∷◌, length, Option, Some, None, unwrap_or, slice_get, refl, sym, subst, ap, ◌∙◌, arith, inl, inr, All, IsSome, find, ◌⊎◌, eqb-true}
 use Rattle.std.specs.Option.{option_map}
-use Rattle.std.specs.Bool.{Decides}
 use Rattle.std.specs.List.{filter_map, cons_option}
 use Rattle.std.proofs.lemmas.Bool.{false≢true}
-use Rattle.std.proofs.lemmas.Bool.Decides.{Decides-eqb, Decides-int_eq, Decides-and, Decides-like}
 use Rattle.std.proofs.lemmas.Option.{slice_get_within, get_or_from_slice_get, same_Some}
 use Rattle.std.proofs.lemmas.List.Elements.{All-head, All-tail, All-get_or}
-use Rattle.mars_tree.specs.declared.label.NameId.{NameId}
-use Rattle.mars_tree.specs.declared.label.Label.{Label}
-use Rattle.mars_tree.specs.declared.label.Label.TheVariants.{Name, Int, Dot, Tup}
 use Rattle.mars_tree.specs.Label.{arity_of}
 use Rattle.mars_tree.specs.Graph.{arity_at}
 use Rattle.mars_tree.proofs.Walks.{IsFinite}
 use Rattle.mars_table.specs.Rows.{Row, row_at, HasRow, kids_of_row, label_of_row}
-use Rattle.mars_table.specs.Finding.{label_eq, same_label}
 use Rattle.mars_table.specs.Sound.{AreClosed}
-
--- `label_eq` tests equality
-pub Decides-label_eq : (a b : Label) → Decides (label_eq a b) (a ≡ b)
-Decides-label_eq (Name a m) (Name b n) = Decides-like (label_eq (Name a m) (Name b n)) (λ (p : (a.0 ≡ b.0) × (m ≡ n)). name p.0 p.1) (λ (e : Name a m ≡ Name b n). names e) (Decides-and (nat_eq a.0 b.0) (nat_eq m n) (Decides-eqb a.0 b.0) (Decides-eqb m n))
-  where
-    name : a.0 ≡ b.0 → m ≡ n → Name a m ≡ Name b n
-    name e f = ap (λ (x : ℕ). Name (record { 0 = x }) m) e ∙ ap (Name b) f
-
-    names : Name a m ≡ Name b n → (a.0 ≡ b.0) × (m ≡ n)
-    names e = let q : a ≡ b = cc in (ap (λ (x : NameId). x.0) q, cc)
-Decides-label_eq (Int a) (Int b) = Decides-like (label_eq (Int a) (Int b)) (λ e. ap Int e) (λ (e : Int a ≡ Int b). cc) (Decides-int_eq a b)
-Decides-label_eq Dot Dot = (λ e. refl, λ e. refl)
-Decides-label_eq (Tup m) (Tup n) = Decides-like (label_eq (Tup m) (Tup n)) (λ e. ap Tup e) (λ (e : Tup m ≡ Tup n). cc) (Decides-eqb m n)
-Decides-label_eq (Name a m) (Int b) = (λ e. absurd (false≢true e), λ e. cc)
-Decides-label_eq (Name a m) Dot = (λ e. absurd (false≢true e), λ e. cc)
-Decides-label_eq (Name a m) (Tup n) = (λ e. absurd (false≢true e), λ e. cc)
-Decides-label_eq (Int a) (Name b n) = (λ e. absurd (false≢true e), λ e. cc)
-Decides-label_eq (Int a) Dot = (λ e. absurd (false≢true e), λ e. cc)
-Decides-label_eq (Int a) (Tup n) = (λ e. absurd (false≢true e), λ e. cc)
-Decides-label_eq Dot (Name b n) = (λ e. absurd (false≢true e), λ e. cc)
-Decides-label_eq Dot (Int b) = (λ e. absurd (false≢true e), λ e. cc)
-Decides-label_eq Dot (Tup n) = (λ e. absurd (false≢true e), λ e. cc)
-Decides-label_eq (Tup m) (Name b n) = (λ e. absurd (false≢true e), λ e. cc)
-Decides-label_eq (Tup m) (Int b) = (λ e. absurd (false≢true e), λ e. cc)
-Decides-label_eq (Tup m) Dot = (λ e. absurd (false≢true e), λ e. cc)
-
--- one label stands at both exactly where it does
-pub same_label_is : (a b : Option Label) → same_label a b ≡ true → (a ≡ b) × (b ≢ None)
-same_label_is (Some a) (Some b) e = (ap (λ l. Some l) ((Decides-label_eq a b).0 e), λ n. cc)
-same_label_is None b e = absurd (false≢true e)
-same_label_is (Some a) None e = absurd (false≢true e)
-
-pub same_label_from : (a b : Option Label) → a ≡ b → b ≢ None → same_label a b ≡ true
-same_label_from (Some a) (Some b) e some = (Decides-label_eq a b).1 (same_Some a b e)
-same_label_from None b e some = absurd (some (sym e))
-same_label_from (Some a) None e some = absurd (some refl)
 
 pub chosen : {A : Type 0} (b : Bool) (x y z : A) → cond b x y ≡ z → ((b ≡ true) × (x ≡ z)) ⊎ ((b ≡ false) × (y ≡ z))
 chosen true x y z e = inl (refl, e)

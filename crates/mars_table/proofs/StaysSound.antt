@@ -7,8 +7,8 @@ use Rattle.std.proofs.lemmas.List.Elements.{All-append, All-cons, All-nil, All-w
 use Rattle.mars_tree.specs.Graph.{Node, IsGround, label_of, free_leaf, Same}
 use Rattle.mars_tree.proofs.Paths.{label_in}
 use Rattle.mars_tree.proofs.Unique.{one_from_same_roots}
-use Rattle.mars_table.specs.Fresh.{fresh_nodes}
-use Rattle.mars_table.specs.Object.{TableObject, intern, kept, full, fresh_before, fresh_rows, number_of}
+use Rattle.mars_table.specs.FreshInside.{fresh_nodes}
+use Rattle.mars_table.specs.Object.{TableObject, intern, kept, full, fresh_before, fresh_rows, row_number}
 use Rattle.mars_reach.specs.Order.{renumbered_node, renumbered}
 use Rattle.mars_table.specs.Rows.{Row, HasRow, tree_of}
 use Rattle.mars_table.specs.Sound.{IsSound}
@@ -18,7 +18,7 @@ use Rattle.mars_table.specs.TreeGraph.{IsTreeGraph}
 use Rattle.mars_table.proofs.Added.{old_has, intern_means}
 use Rattle.mars_table.proofs.Distinct.{numbers, distinct-append}
 use Rattle.mars_table.proofs.FreshRows.{rows_fresh, fresh_in_range, length-fresh}
-use Rattle.mars_table.proofs.Grown.{tree_some}
+use Rattle.mars_table.proofs.TreeFacts.{tree_some}
 use Rattle.mars_reach.proofs.Numbers.{All-from_gets, All-slice_get}
 use Rattle.mars_table.proofs.Pinned.{grown, intern_keeps_trees}
 use Rattle.mars_table.proofs.Stored.{All-stored, distinct_stored, length-stored, stored_number}
@@ -26,7 +26,7 @@ use Rattle.mars_table.proofs.Stored.{All-stored, distinct_stored, length-stored,
 module _ (t : TableObject) (who : ℕ) (g : List Node) (sound : IsSound t) (is : IsTreeGraph g) where
   -- the fresh nodes, under their numbers
   fresh_graph : List Node
-  fresh_graph = renumbered g (number_of t.rows t.next g) (fresh_nodes t.rows g (length g))
+  fresh_graph = renumbered g (row_number t.rows t.next g) (fresh_nodes t.rows g (length g))
 
   fresh_are : rows_from t.next fresh_graph ≡ fresh_rows t.rows t.next g
   unfolding fresh_graph
@@ -34,13 +34,13 @@ module _ (t : TableObject) (who : ℕ) (g : List Node) (sound : IsSound t) (is :
 
   fresh_ground : IsGround fresh_graph
   unfolding fresh_graph
-  fresh_ground = All-map (λ node. node.label ≢ None) (renumbered_node g (number_of t.rows t.next g)) (fresh_nodes t.rows g (length g))
+  fresh_ground = All-map (λ node. node.label ≢ None) (renumbered_node g (row_number t.rows t.next g)) (fresh_nodes t.rows g (length g))
       (All-from_gets (λ n. label_of g n ≢ None) (fresh_nodes t.rows g (length g)) (λ k n e.
       label_in g n is.labels (All-slice_get (λ n. n < length g) (fresh_nodes t.rows g (length g)) k n (fresh_in_range t.rows g (length g)) e)))
 
   fresh_length : length fresh_graph ≡ fresh_before t.rows g (length g)
   unfolding fresh_graph
-  fresh_length = length-map (fresh_nodes t.rows g (length g)) (renumbered_node g (number_of t.rows t.next g)) ∙ length-fresh t.rows t.next g (length g)
+  fresh_length = length-map (fresh_nodes t.rows g (length g)) (renumbered_node g (row_number t.rows t.next g)) ∙ length-fresh t.rows t.next g (length g)
 
   fresh_numbers : All (λ row. (t.next ≤ row.number) × (row.number < t.next + fresh_before t.rows g (length g))) (fresh_rows t.rows t.next g)
   fresh_numbers =
@@ -64,9 +64,9 @@ module _ (t : TableObject) (who : ℕ) (g : List Node) (sound : IsSound t) (is :
         below = All-append (λ row. row.number < next) t.rows more (All-weaker (λ row. row.number < t.next) (λ row. row.number < next) (λ row lt. omega (arith, lt)) t.rows sound.below)
             (All-weaker (λ row. (t.next ≤ row.number) × (row.number < next)) (λ row. row.number < next) (λ row b. b.1) more fresh_numbers);
         closed = m.closed;
-        pins = All-append (λ (pin : ℕ × ℕ). HasRow (t.rows ++ more) pin.1) t.pins ((who, number_of t.rows t.next g 0) ∷ [])
+        pins = All-append (λ (pin : ℕ × ℕ). HasRow (t.rows ++ more) pin.1) t.pins ((who, row_number t.rows t.next g 0) ∷ [])
             (All-weaker (λ (pin : ℕ × ℕ). HasRow t.rows pin.1) (λ (pin : ℕ × ℕ). HasRow (t.rows ++ more) pin.1) (λ pin has. (keeps pin.1 has).0) t.pins sound.pins)
-            (All-cons (λ (pin : ℕ × ℕ). HasRow (t.rows ++ more) pin.1) (who, number_of t.rows t.next g 0) [] (m.trees 0 (tree_some g is)).0 (All-nil (λ (pin : ℕ × ℕ). HasRow (t.rows ++ more) pin.1)));
+            (All-cons (λ (pin : ℕ × ℕ). HasRow (t.rows ++ more) pin.1) (who, row_number t.rows t.next g 0) [] (m.trees 0 (tree_some g is)).0 (All-nil (λ (pin : ℕ × ℕ). HasRow (t.rows ++ more) pin.1)));
         limit = omega (arith, grown_length, fits);
         apart = m.apart;
       }
@@ -77,18 +77,18 @@ intern_keeps_sound t who g sound is =
     either (nat_lt t.limit (length t.rows + fresh)) (λ none. grown_sound t who g sound is (grind (arith, nat_tests, none)))
   where
     either : (b : Bool) → (b ≡ false → IsSound (grown t who g)) →
-        IsSound (table_after t (cond b (full (length t.rows) (fresh_before t.rows g (length g)) t.limit) (kept (number_of t.rows t.next g 0) (grown t who g))))
+        IsSound (table_after t (cond b (full (length t.rows) (fresh_before t.rows g (length g)) t.limit) (kept (row_number t.rows t.next g 0) (grown t who g))))
     either true fits = sound
     either false fits = fits refl
 
 pub interns_to_lasts : InternsToLasts
 interns_to_lasts old new who g root h sound to =
-    let keeps = intern_keeps_trees old new who h to.tree sound to.is_tree to.kept in
+    let keeps = intern_keeps_trees old new who h to.tree sound to.is.is_tree to.kept in
     record {
-      sound = subst IsSound (ap (table_after old) to.kept) (intern_keeps_sound old who to.tree sound to.is_tree);
+      sound = subst IsSound (ap (table_after old) to.kept) (intern_keeps_sound old who to.tree sound to.is.is_tree);
       trees = keeps.0;
       has = keeps.1;
-      tree = λ path. keeps.2 path ∙ to.same path;
+      tree = λ path. keeps.2 path ∙ to.is.same path;
     }
 
 pub numbers_agree : NumbersAgree
@@ -97,9 +97,9 @@ numbers_agree t g h n m a b sound has_a has_b left right = (
   λ same. sound.apart a b has_a has_b (λ path. left path ∙ same path ∙ sym (right path)),
 )
 
-pub one_answer : OneInterning
-one_answer old new other who g h n m a b left right same =
-    let roots : Same left.tree 0 right.tree 0 = λ path. left.same path ∙ same path ∙ sym (right.same path) in
-    let one = one_from_same_roots left.tree right.tree (0 ∷ []) (0 ∷ []) left.is_tree.graph right.is_tree.graph left.is_tree.canonical right.is_tree.canonical (roots, tt) in
+pub one_interning : OneInterning
+one_interning old new other who g h n m a b left right same =
+    let roots : Same left.tree 0 right.tree 0 = λ path. left.is.same path ∙ same path ∙ sym (right.is.same path) in
+    let one = one_from_same_roots left.tree right.tree (0 ∷ []) (0 ∷ []) left.is.is_tree.graph right.is.is_tree.graph left.is.is_tree.canonical right.is.is_tree.canonical (roots, tt) in
     let both : kept a new ≡ kept b other = sym left.kept ∙ ap (intern old who) one.0 ∙ right.kept in
     (cc, cc)

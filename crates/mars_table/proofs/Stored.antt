@@ -145,7 +145,7 @@ distinct_stored b (node ∷ g) ground =
 pub below_stored : (g : List Node) → IsGround g → All (λ row. row.number < length g) (rows_of g)
 below_stored g ground = All-stored (λ row. row.number < length g) 0 g ground (λ i row lt e. omega (arith, lt, stored_number (0 + i) (get_or g i free_leaf) row e))
 
--- what the fields stand for is sound
+-- what the fields hold is sound
 pub sound_stored : (g : List Node) (pins : List (ℕ × ℕ)) (cap : ℕ) → IsGraph g → IsGround g → IsReduced g → All (λ pin. pin.1 < length g) pins → length g ≤ cap →
     IsSound (record { rows = rows_of g; pins = pins; next = length g; limit = cap })
 sound_stored g pins cap g_is ground apart pinned within = record {

@@ -1,4 +1,4 @@
--- Rows with the fresh nodes of a tree behind them.
+-- Rows with the fresh nodes of a tree after them.
 use Rattle.std.proofs.Common.{◌≡◌, ◌≢◌, false, cond, nat_lt, ℕ, ◌<◌, ◌≤◌, ◌+◌, List, [], ◌∷◌, ◌++◌, length, map, Some, None, slice_get, refl, sym, subst, ap, ◌∙◌, arith, All, length-append, append-nil}
 use Rattle.std.specs.List.{range_with_len}
 use Rattle.std.proofs.lemmas.List.{length-map}
@@ -6,9 +6,9 @@ use Rattle.std.proofs.lemmas.List.Elements.{All-append, All-map, All-weaker}
 use Rattle.mars_tree.specs.Graph.{Node, IsNode, IsGraph, IsGround, label_of, kids_of}
 use Rattle.mars_tree.proofs.Graphs.{node_in}
 use Rattle.mars_tree.proofs.Paths.{kid_in, label_in}
-use Rattle.mars_table.specs.Fresh.{fresh_nodes}
+use Rattle.mars_table.specs.FreshInside.{fresh_nodes}
 use Rattle.std.proofs.lemmas.Bool.Decides.{nat_tests}
-use Rattle.mars_table.specs.Object.{Interned, kept, full, intern, fresh_before, number_of, fresh_rows}
+use Rattle.mars_table.specs.Object.{Interned, kept, full, intern, fresh_before, row_number, fresh_rows}
 use Rattle.mars_reach.specs.Order.{renumbered_node, renumbered}
 use Rattle.mars_table.specs.Renumber.{at_places}
 use Rattle.mars_table.specs.Renumber.{HasLabels, KidsFit}
@@ -18,7 +18,8 @@ use Rattle.mars_table.specs.TableInside.{rows_from, rows_of}
 use Rattle.mars_table.specs.TreeGraph.{IsTreeGraph}
 use Rattle.mars_table.proofs.FoundNodes.{found_is}
 use Rattle.mars_table.proofs.FreshRows.{at_map, fresh_in_range, number_below, length-fresh, length-range, rows_fresh}
-use Rattle.mars_table.proofs.Grown.{rows_from-append, tree_some}
+use Rattle.mars_table.proofs.Grown.{rows_from-append}
+use Rattle.mars_table.proofs.TreeFacts.{tree_some}
 use Rattle.mars_reach.proofs.Numbers.{All-from_gets, All-slice_get}
 use Rattle.mars_table.proofs.Added.{map_like}
 
@@ -30,7 +31,7 @@ pub record HasGrown (g tree grown : List Node) : Type 0 where
   pub labels : IsGround grown
 
 module _ (g tree : List Node) (numbers fresh : List ℕ) (g_is : IsGraph g) (ground : IsGround g) (apart : IsReduced g) (is_tree : IsTreeGraph tree)
-    (numbers_are : numbers ≡ map (number_of (rows_of g) (length g) tree) (range_with_len 0 (length tree))) (fresh_are : fresh ≡ fresh_nodes (rows_of g) tree (length tree)) where
+    (numbers_are : numbers ≡ map (row_number (rows_of g) (length g) tree) (range_with_len 0 (length tree))) (fresh_are : fresh ≡ fresh_nodes (rows_of g) tree (length tree)) where
   pub fresh_below : All (λ n. n < length tree) fresh
   fresh_below = subst (λ (xs : List ℕ). All (λ n. n < length tree) xs) (sym fresh_are) (fresh_in_range (rows_of g) tree (length tree))
 
@@ -41,17 +42,17 @@ module _ (g tree : List Node) (numbers fresh : List ℕ) (g_is : IsGraph g) (gro
   fresh_has_labels = All-from_gets (λ n. label_of tree n ≢ None) fresh (λ k n e. label_in tree n is_tree.labels (in_tree k n e))
 
   pub numbers_size : length numbers ≡ length tree
-  numbers_size = ap length numbers_are ∙ length-map (range_with_len 0 (length tree)) (number_of (rows_of g) (length g) tree) ∙ length-range (length tree)
+  numbers_size = ap length numbers_are ∙ length-map (range_with_len 0 (length tree)) (row_number (rows_of g) (length g) tree) ∙ length-range (length tree)
 
-  pub number_at : (n : ℕ) → n < length tree → at_places numbers n ≡ number_of (rows_of g) (length g) tree n
-  number_at n lt = ap (λ xs. at_places xs n) numbers_are ∙ at_map (number_of (rows_of g) (length g) tree) (length tree) n lt
+  pub number_at : (n : ℕ) → n < length tree → at_places numbers n ≡ row_number (rows_of g) (length g) tree n
+  number_at n lt = ap (λ xs. at_places xs n) numbers_are ∙ at_map (row_number (rows_of g) (length g) tree) (length tree) n lt
 
   fresh_count : length fresh ≡ fresh_before (rows_of g) tree (length tree)
   fresh_count = ap length fresh_are ∙ length-fresh (rows_of g) (length g) tree (length tree)
 
   number_fits : (n : ℕ) → n < length tree → at_places numbers n < length g + length fresh
   number_fits n lt =
-      let below : number_of (rows_of g) (length g) tree n < length g + fresh_before (rows_of g) tree (length tree) =
+      let below : row_number (rows_of g) (length g) tree n < length g + fresh_before (rows_of g) tree (length tree) =
       number_below (rows_of g) (length g) tree n (length tree) lt (λ h e. (found_is g tree g_is ground apart is_tree.graph is_tree.labels n lt h e).0) in
       omega (arith, below, number_at n lt, fresh_count)
 
@@ -59,18 +60,18 @@ module _ (g tree : List Node) (numbers fresh : List ℕ) (g_is : IsGraph g) (gro
   fresh_kids_fit = All-from_gets (λ n. All (λ kid. at_places numbers kid < length g + length fresh) (kids_of tree n)) fresh (λ k n e.
       All-from_gets (λ kid. at_places numbers kid < length g + length fresh) (kids_of tree n) (λ j kid f. number_fits kid (kid_in tree n j kid is_tree.graph (in_tree k n e) f)))
 
-  pub root_number : at_places numbers 0 ≡ number_of (rows_of g) (length g) tree 0
+  pub root_number : at_places numbers 0 ≡ row_number (rows_of g) (length g) tree 0
   root_number = number_at 0 (tree_some tree is_tree)
 
   more : List Node
   more = renumbered tree (at_places numbers) fresh
 
-  more_is : more ≡ renumbered tree (number_of (rows_of g) (length g) tree) (fresh_nodes (rows_of g) tree (length tree))
+  more_is : more ≡ renumbered tree (row_number (rows_of g) (length g) tree) (fresh_nodes (rows_of g) tree (length tree))
   unfolding more
   more_is =
-      map_like (renumbered_node tree (at_places numbers)) (renumbered_node tree (number_of (rows_of g) (length g) tree)) fresh (λ k n e.
-      ap (λ ks. record { label = label_of tree n; kids = ks }) (map_like (at_places numbers) (number_of (rows_of g) (length g) tree) (kids_of tree n) (λ j kid f. number_at kid (kid_in tree n j kid is_tree.graph (in_tree k n e) f))))
-      ∙ ap (renumbered tree (number_of (rows_of g) (length g) tree)) fresh_are
+      map_like (renumbered_node tree (at_places numbers)) (renumbered_node tree (row_number (rows_of g) (length g) tree)) fresh (λ k n e.
+      ap (λ ks. record { label = label_of tree n; kids = ks }) (map_like (at_places numbers) (row_number (rows_of g) (length g) tree) (kids_of tree n) (λ j kid f. number_at kid (kid_in tree n j kid is_tree.graph (in_tree k n e) f))))
+      ∙ ap (renumbered tree (row_number (rows_of g) (length g) tree)) fresh_are
 
   more_length : length more ≡ length fresh
   unfolding more
@@ -109,12 +110,12 @@ nil_of (x ∷ xs) e = absurd (omega arith)
 
 -- what interning gives where the limit allows it
 pub interns_kept : (g tree grown : List Node) (pins new_pins : List (ℕ × ℕ)) (cap who row : ℕ) → HasGrown g tree grown → length (rows_of g) + fresh_before (rows_of g) tree (length tree) ≤ cap →
-    row ≡ number_of (rows_of g) (length g) tree 0 → new_pins ≡ pins ++ (who, row) ∷ [] →
+    row ≡ row_number (rows_of g) (length g) tree 0 → new_pins ≡ pins ++ (who, row) ∷ [] →
     intern (record { rows = rows_of g; pins = pins; next = length g; limit = cap }) who tree ≡ kept row (record { rows = rows_of grown; pins = new_pins; next = length grown; limit = cap })
 interns_kept g tree grown pins new_pins cap who row has fits root pinned =
     let rows : List Row = rows_of g in
     let fresh : ℕ = fresh_before rows tree (length tree) in
-    let number : ℕ = number_of rows (length g) tree 0 in
+    let number : ℕ = row_number rows (length g) tree 0 in
     let not_full : nat_lt cap (length rows + fresh) ≡ false = grind (arith, nat_tests) in
     let as_kept : ℕ → List Row → List (ℕ × ℕ) → ℕ → Interned = λ h rs ps next. kept h (record { rows = rs; pins = ps; next = next; limit = cap }) in
     ap (λ b. cond b (full (length rows) fresh cap) (as_kept number (rows ++ fresh_rows rows (length g) tree) (pins ++ (who, number) ∷ []) (length g + fresh))) not_full

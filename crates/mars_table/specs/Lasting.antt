@@ -1,4 +1,4 @@
--- Trees last: what a number means stays while the table grows.
+-- Laws of a table that grows: a number keeps its tree.
 use Rattle.std.specs.Prelude.{◌≡◌, ℕ, List}
 use Rattle.mars_tree.specs.Graph.{Node}
 use Rattle.mars_table.specs.Rows.{HasRow, IsRowOf, SameRow}

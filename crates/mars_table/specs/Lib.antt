@@ -1,13 +1,16 @@
-pub mod Examples
+-- Promised: rows, the table object and its laws.
+pub mod Rows
 pub mod Finding
-pub mod Fresh
+pub mod Object
+pub mod Sound
+pub mod TreeGraph
+-- Laws: each is the contract of a function of src/laws.rt.
+pub mod TableLaws
+pub mod SoundLaws
 pub mod Lasting
 pub mod Met
-pub mod Object
+pub mod Examples
+-- Inside: the code's own steps, promised to nobody.
+pub mod FreshInside
 pub mod Renumber
-pub mod Rows
-pub mod Sound
-pub mod SoundLaws
 pub mod TableInside
-pub mod TableLaws
-pub mod TreeGraph

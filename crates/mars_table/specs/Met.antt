@@ -1,4 +1,4 @@
--- Tables without a row to sweep: each row is met by a walk along kids from a pin.
+-- Laws of tables in which a sweep takes no row: a walk along kids from a pin meets each row.
 use Rattle.std.specs.Prelude.{◌≡◌, ℕ, List}
 use Rattle.mars_tree.specs.Graph.{Node}
 use Rattle.mars_table.specs.Rows.{HasRow}

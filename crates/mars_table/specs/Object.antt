@@ -23,17 +23,17 @@ fresh_before rows g zero = 0
 fresh_before rows g (suc n) = fresh_before rows g n + (if is_none (find_row rows g n) then 1 else 0)
 
 -- the number of node `n`: that of its row, or else the next one, counted up
-abbrev pub number_of : List Row → ℕ → List Node → ℕ → ℕ
-number_of rows next g n = unwrap_or (find_row rows g n) (next + fresh_before rows g n)
+abbrev pub row_number : List Row → ℕ → List Node → ℕ → ℕ
+row_number rows next g n = unwrap_or (find_row rows g n) (next + fresh_before rows g n)
 
 -- node `n` as a row, where it has none
 abbrev pub fresh_row : List Row → ℕ → List Node → ℕ → Option Row
 fresh_row rows next g n =
     if is_none (find_row rows g n)
-    then option_map (λ l. record { number = number_of rows next g n; label = l; kids = map (number_of rows next g) (kids_of g n) }) (label_of g n)
+    then option_map (λ l. record { number = row_number rows next g n; label = l; kids = map (row_number rows next g) (kids_of g n) }) (label_of g n)
     else None
 
--- the rows that the graph's nodes want, in the order of the nodes
+-- the rows that the graph's nodes need, in the order of the nodes
 abbrev pub fresh_rows : List Row → ℕ → List Node → List Row
 fresh_rows rows next g = filter_map (fresh_row rows next g) (range_with_len 0 (length g))
 
@@ -46,7 +46,7 @@ pub data Interned : Type 0 where
 abbrev pub intern : TableObject → ℕ → List Node → Interned
 intern t who g =
     let fresh = fresh_before t.rows g (length g) in
-    let root = number_of t.rows t.next g 0 in
+    let root = row_number t.rows t.next g 0 in
     if nat_lt t.limit (length t.rows + fresh) then full (length t.rows) fresh t.limit
     else kept root (record {
       rows = t.rows ++ fresh_rows t.rows t.next g;
@@ -73,5 +73,5 @@ abbrev pub swept : TableObject → ℕ
 swept t = length t.rows - length (sweep t).rows
 
 -- how many rows and how many pins there are
-abbrev pub count : TableObject → ℕ × ℕ
-count t = (length t.rows, length t.pins)
+abbrev pub counts_of : TableObject → ℕ × ℕ
+counts_of t = (length t.rows, length t.pins)

@@ -32,7 +32,7 @@ shown_at_row rows h = stands (label_of_row rows h) h
 abbrev pub row_end : List Row → ℕ → List ℕ → Option ℕ
 row_end rows h path = walk (kids_of_row rows) h path
 
--- the tree of row `h`: what stands at the end of each path
+-- the tree of row `h`: what is at the end of each path
 abbrev pub tree_of : List Row → ℕ → List ℕ → Option Shown
 tree_of rows h path = option_map (shown_at_row rows) (row_end rows h path)
 

@@ -1,4 +1,4 @@
--- Tables in which each number stands for one tree.
+-- Sound tables: each number names one tree, and no tree has two numbers.
 use Rattle.std.specs.Prelude.{◌≡◌, ℕ, ◌<◌, ◌≤◌, nat_eq, List, length, map, Some, All, Contains}
 use Rattle.std.specs.List.{IsDistinct}
 use Rattle.mars_tree.specs.Label.{arity_of}

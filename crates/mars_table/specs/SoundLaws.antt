@@ -8,7 +8,7 @@ use Rattle.mars_table.specs.Sound.{IsSound}
 use Rattle.mars_table.specs.TreeGraph.{IsTreeGraph, InternsTo}
 use Rattle.mars_table.specs.Lasting.{KeepsTrees}
 
--- the table behind an answer: at `full` it is the old one
+-- the table after an answer: at `full` it is the old one
 abbrev pub table_after : TableObject → Interned → TableObject
 table_after old (kept root new) = new
 table_after old (full rows fresh cap) = old

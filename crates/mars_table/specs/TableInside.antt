@@ -1,4 +1,4 @@
--- The table object that a table's fields stand for.
+-- Inside a table: the table object that its fields hold, and what holds of them.
 use Rattle.std.specs.Prelude.{ℕ, ◌+◌, ◌^◌, ◌<◌, ◌≤◌, List, [], ◌∷◌, length, Option, All}
 use Rattle.std.specs.Option.{option_map}
 use Rattle.std.specs.List.{cons_option}

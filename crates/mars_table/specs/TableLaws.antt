@@ -3,7 +3,7 @@ use Rattle.std.specs.Prelude.{◌≡◌, ◌↔◌, ℕ, ◌<◌, List, ◌++◌
 use Rattle.mars_tree.specs.Graph.{Node, IsGraph, IsGround, Same}
 use Rattle.mars_table.specs.Rows.{Row, row_at, HasRow, IsRowOf, SameRow}
 use Rattle.mars_table.specs.Finding.{find_row}
-use Rattle.mars_table.specs.Object.{TableObject, fresh_rows, number_of, sweep}
+use Rattle.mars_table.specs.Object.{TableObject, fresh_rows, row_number, sweep}
 use Rattle.mars_table.specs.Sound.{AreClosed, IsApart, IsMet}
 
 -- a row is found exactly where it is the same tree
@@ -16,7 +16,7 @@ pub record InternsTrees (rows : List Row) (next : ℕ) (g : List Node) : Type 0 
   pub closed : AreClosed (rows ++ fresh_rows rows next g)
   pub apart : IsApart (rows ++ fresh_rows rows next g)
   pub kept : (h : ℕ) → HasRow rows h → SameRow (rows ++ fresh_rows rows next g) h rows h
-  pub trees : (n : ℕ) → n < length g → HasRow (rows ++ fresh_rows rows next g) (number_of rows next g n) × IsRowOf (rows ++ fresh_rows rows next g) (number_of rows next g n) g n
+  pub trees : (n : ℕ) → n < length g → HasRow (rows ++ fresh_rows rows next g) (row_number rows next g n) × IsRowOf (rows ++ fresh_rows rows next g) (row_number rows next g n) g n
 
 -- interning a graph of distinct trees adds what it says
 abbrev pub InternMeans : Type 0

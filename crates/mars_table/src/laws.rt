@@ -51,7 +51,7 @@ pub fn numbers_agree()
 {}
 
 /// The answer to interning is fixed by the tree, whatever graph gives it.
-pub fn one_answer()
+pub fn one_interning()
     ensures { OneInterning }
 {}
 

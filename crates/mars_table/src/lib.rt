@@ -11,6 +11,7 @@ mod tests;
 
 pub use laws::{
     examples, find_means, intern_keeps_met, intern_keeps_sound, intern_keeps_trees, intern_means,
-    interns_to_lasts, numbers_agree, one_answer, sweep_keeps_met, sweep_keeps_sound, sweep_means,
+    interns_to_lasts, numbers_agree, one_interning, sweep_keeps_met, sweep_keeps_sound,
+    sweep_means,
 };
 pub use table::{Handle, Table};

@@ -2,8 +2,8 @@
 ghost use Rattle.std.specs.Prelude.{◌≡◌, ◌+◌, ◌^◌, ◌<◌, ◌++◌, length, map, IfOk, OnOk, OnErr};
 ghost use Rattle.std.specs.List.{range_with_len};
 ghost use Rattle.mars_tree.specs.Graph.{IsGraph, IsGround};
-ghost use Rattle.mars_table.specs.Fresh.{fresh_nodes};
-ghost use Rattle.mars_table.specs.Object.{fresh_before, fresh_rows, number_of};
+ghost use Rattle.mars_table.specs.FreshInside.{fresh_nodes};
+ghost use Rattle.mars_table.specs.Object.{fresh_before, fresh_rows, row_number};
 ghost use Rattle.mars_reach.specs.Order.{renumbered};
 ghost use Rattle.mars_table.specs.Renumber.{at_places};
 ghost use Rattle.mars_reach.specs.Part.{IsReduced};
@@ -29,7 +29,7 @@ fn number_nodes(alloc: Global, rows: &Graph, tree: &Graph) -> Result<Numbered, N
     requires apart { IsReduced rows.now }
     requires tree { IsTreeGraph tree.now }
     requires room { length rows.now + length tree.now < 2 ^ 64 }
-    ensures numbers { IfOk result (λ n. n.numbers.items ≡ map (number_of (rows_of rows.now) (length rows.now) tree.now) (range_with_len 0 (length tree.now))) }
+    ensures numbers { IfOk result (λ n. n.numbers.items ≡ map (row_number (rows_of rows.now) (length rows.now) tree.now) (range_with_len 0 (length tree.now))) }
     ensures fresh { IfOk result (λ n. n.fresh.items ≡ fresh_nodes (rows_of rows.now) tree.now (length tree.now)) }
 {
     let mut numbers = Vec::new(alloc);
@@ -79,7 +79,7 @@ fn with_fresh(
     requires labels { IsGround rows.now }
     requires apart { IsReduced rows.now }
     requires tree { IsTreeGraph tree.now }
-    requires numbers { numbered.now.numbers.items ≡ map (number_of (rows_of rows.now) (length rows.now) tree.now) (range_with_len 0 (length tree.now)) }
+    requires numbers { numbered.now.numbers.items ≡ map (row_number (rows_of rows.now) (length rows.now) tree.now) (range_with_len 0 (length tree.now)) }
     requires fresh { numbered.now.fresh.items ≡ fresh_nodes (rows_of rows.now) tree.now (length tree.now) }
     ensures { IfOk result (λ grown. grown ≡ rows.now ++ renumbered tree.now (at_places numbered.now.numbers.items) numbered.now.fresh.items) }
 {
@@ -100,7 +100,7 @@ pub(crate) fn grow(alloc: Global, rows: &mut Graph, tree: &Graph) -> Result<usiz
     ensures count { OnOk result (length rows.new ≡ length rows.old + fresh_before (rows_of rows.old) tree.now (length tree.now)) }
     ensures graph { OnOk result (IsGraph rows.new) }
     ensures labels { OnOk result (IsGround rows.new) }
-    ensures root { IfOk result (λ row. row ≡ number_of (rows_of rows.old) (length rows.old) tree.now 0) }
+    ensures root { IfOk result (λ row. row ≡ row_number (rows_of rows.old) (length rows.old) tree.now 0) }
     ensures as_before { OnErr result (rows.new ≡ rows.old) }
 {
     let numbered = number_nodes(alloc, rows, tree)?;

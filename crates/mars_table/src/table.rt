@@ -1,14 +1,12 @@
 // The table as one graph whose nodes are the rows, in the order of their numbers.
-ghost use Rattle.std.specs.Prelude.{◌≡◌, ◌+◌, ◌≤◌, ◌<◌, [], length, IfOk, OnOk, OnErr};
-ghost use Rattle.mars_tree.specs.Graph.{kids_of};
+ghost use Rattle.std.specs.Prelude.{◌≡◌, ◌+◌, ◌≤◌, length, IfOk, OnOk, OnErr};
 ghost use Rattle.mars_table.specs.Object.{empty_table, intern, Interned};
-ghost use Rattle.mars_reach.specs.Reach.{ReachesNoFree};
 ghost use Rattle.mars_table.specs.Sound.{IsSound};
-ghost use Rattle.mars_table.specs.TreeGraph.{IsTreeGraph, InternsTo};
+ghost use Rattle.mars_table.specs.TreeGraph.{IsTreeGraph};
 
 use crate::rows::grow;
 use mars_base::NoMemory;
-use mars_canon::canon;
+use mars_canon::Tree;
 use mars_tree::Graph;
 use std::alloc::Global;
 use std::marker::Model;
@@ -51,19 +49,18 @@ impl Table {
         }
     }
 
-    /// Keeps the tree of a node, with a pin of `who` on it: under its old number where the tree is there.
-    /// Each distinct node that the root reaches is searched through all rows. `NoMemory` changes nothing.
-    pub fn intern(&mut self, who: u32, graph: &Graph, root: usize) -> Result<Handle, NoMemory>
-        requires root_in { root < length graph.now }
-        requires no_free_leaf { ReachesNoFree graph.now root }
-        requires room { length self.old.rows + length graph.now ≤ self.old.limit }
-        ensures kept { IfOk result (λ handle. InternsTo self.old who graph.now root handle.0 self.new) }
+    /// Keeps a tree, with a pin of `who` on it: under its old number where the table has it. The tree is copied once,
+    /// and each of its nodes is searched for through all rows. `NoMemory` changes nothing.
+    pub fn intern(&mut self, who: u32, tree: &Tree) -> Result<Handle, NoMemory>
+        requires { length self.old.rows + length tree.now ≤ self.old.limit }
+        ensures kept { IfOk result (λ handle. intern self.old who tree.now ≡ Interned.kept handle.0 self.new) }
         ensures limit { OnOk result (self.new.limit ≡ self.old.limit) }
-        ensures small { OnOk result (length self.new.rows ≤ length self.old.rows + length graph.now) }
+        ensures small { OnOk result (length self.new.rows ≤ length self.old.rows + length tree.now) }
         ensures as_before { OnErr result (self.new ≡ self.old) }
     {
-        let tree = canon(self.alloc, graph, &[root])?;
-        self.keep(who, tree.graph())
+        let _count = tree.len();
+        let canon = tree.canon()?;
+        self.keep(who, canon.graph())
     }
 
     /// Keeps a tree that is given by its canonical graph.

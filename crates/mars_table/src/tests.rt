@@ -2,6 +2,7 @@
 ghost use Rattle.std.specs.Prelude.{◌≡◌, OnOk};
 
 use crate::{Handle, Table};
+use mars_canon::{Tree, canon};
 use mars_reach::reaches_free;
 use mars_tree::{Graph, Label, NameId};
 use std::alloc::Global;
@@ -46,10 +47,13 @@ fn kept<R: Abort + AllocGlobal>(
     ensures { OnOk result (table.new.limit ≡ 1048576) }
 {
     assert!(rt; root < graph.len());
-    assert!(rt; graph.len() < 100_000);
     assert!(rt; table.counts().0 < 900_000);
-    assert!(rt; !reaches_free(rt.alloc(), graph, root)?);
-    Ok(table.intern(0, graph, root)?)
+    let form = canon(rt.alloc(), graph, &[root])?;
+    let Some(tree) = Tree::of(rt.alloc(), &form)? else {
+        panic!(rt; "no tree")
+    };
+    assert!(rt; tree.len() < 100_000);
+    Ok(table.intern(0, &tree)?)
 }
 
 #[test]

@@ -1,3 +1,4 @@
 pub mod Numbers
+pub mod OneForm
 pub mod Readying
 pub mod Running

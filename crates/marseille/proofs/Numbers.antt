@@ -2,13 +2,13 @@
 use Rattle.std.proofs.Common.{◌≡◌, ℕ, zero, suc, List, [], ◌∷◌, Option, Some, None, slice_get, sym, subst, ap, ◌∙◌}
 use Rattle.std.specs.List.{AllZip}
 use Rattle.mars_table.specs.Object.{TableObject}
-use Rattle.mars_table.specs.Rows.{tree_of}
 use Rattle.mars_table.specs.Sound.{IsSound}
+use Rattle.mars_table.proofs.CallerLemmas.{numbers_agree}
 use Rattle.mars_read.specs.declared.first.FirstPut.{FirstPut}
 use Rattle.marseille.specs.declared.run.PutAnswer.{PutAnswer}
 use Rattle.marseille.specs.declared.run.PutAnswer.TheVariants.{Kept}
 use Rattle.marseille.specs.Run.{OneNumberATree}
-use Rattle.marseille.specs.Runs.{IsKeptTree}
+use Rattle.marseille.specs.RunInside.{IsKeptTree}
 
 zip-at : {A B : Type 0} (R : A → B → Type 0) (xs : List A) (ys : List B) (i : ℕ) (x : A) (y : B) → AllZip R xs ys → slice_get xs i ≡ Some x → slice_get ys i ≡ Some y → R x y
 zip-at {A} {B} R [] ys i x y all left right = absurd (let e : ◌≡◌ {A = Option A} None (Some x) = left in cc)
@@ -23,7 +23,5 @@ zip-at R (a ∷ xs) (b ∷ ys) (suc i) x y all left right = zip-at R xs ys i x y
 pub numbers_of_trees : (table : TableObject) (puts : List FirstPut) (answers : List PutAnswer) → IsSound table → AllZip (IsKeptTree table) puts answers → OneNumberATree puts answers
 numbers_of_trees table puts answers sound hold i j put other h k put_at other_at h_at k_at =
     let here = zip-at (IsKeptTree table) puts answers i put (Kept (record { 0 = h })) hold put_at h_at in
-    let there = zip-at (IsKeptTree table) puts answers j other (Kept (record { 0 = k })) hold other_at k_at in (
-      λ same path. sym (here.1 path) ∙ ap (λ n. tree_of table.rows n path) same ∙ there.1 path,
-      λ same. sound.apart h k here.0 there.0 (λ path. here.1 path ∙ same path ∙ sym (there.1 path)),
-    )
+    let there = zip-at (IsKeptTree table) puts answers j other (Kept (record { 0 = k })) hold other_at k_at in
+    numbers_agree table put.graph other.graph put.root other.root h k sound here.0 there.0 here.1 there.1

@@ -1,4 +1,4 @@
--- A command more has run.
+-- The run of one command more.
 use Rattle.std.proofs.Common.{All, Bool, true, false, zero, suc, take, get_or, ◌<◌, ◌≡◌, ℕ, ◌+◌, ◌≤◌, List, [], ◌∷◌, ◌++◌, length, refl, sym, subst, ap, ◌∙◌, arith, append_assoc, append-nil}
 use Rattle.std.specs.List.{AllZip, IsDistinct}
 use Rattle.std.proofs.lemmas.List.Elements.{All-nil}
@@ -12,12 +12,12 @@ use Rattle.mars_table.specs.Rows.{HasRow}
 use Rattle.mars_table.specs.Sound.{IsSound}
 use Rattle.mars_table.specs.Met.{AreAllMet}
 use Rattle.mars_table.specs.Lasting.{KeepsTrees}
-use Rattle.mars_table.proofs.Pinned.{intern_keeps_met, intern_kept, sweep_keeps_met}
-use Rattle.mars_table.proofs.StaysSound.{interns_to_lasts}
+use Rattle.mars_table.proofs.CallerLemmas.{interns_to_lasts, intern_keeps_met, sweep_keeps_met, limit_kept}
 use Rattle.marseille.specs.declared.run.PutAnswer.{PutAnswer}
-use Rattle.marseille.specs.declared.run.PutAnswer.TheVariants.{NameTaken, NotGround, Kept}
-use Rattle.marseille.specs.Run.{IsAnswered, AreAnswered, taken_with, row_limit}
-use Rattle.marseille.specs.Runs.{taken_behind, IsKeptTree, HaveRun}
+use Rattle.marseille.specs.declared.run.PutAnswer.TheVariants.{NameTaken, NotGround, TooLarge, Kept}
+use Rattle.marseille.specs.declared.run.TheConstants.{ROW_LIMIT}
+use Rattle.marseille.specs.Run.{IsAnswered, AreAnswered, given_with}
+use Rattle.marseille.specs.RunInside.{given_after, IsKeptTree, HaveRun}
 use Rattle.marseille.specs.Text.{line_of, lines_of, session_line, counts_line, closing_line}
 use Rattle.mars_read.specs.declared.first.First.{First}
 use Rattle.marseille.specs.Run.{IsRun}
@@ -25,28 +25,28 @@ use Rattle.mars_table.specs.Object.{sweep, swept}
 use Rattle.marseille.proofs.Numbers.{numbers_of_trees}
 
 -- answers in turn, with one more at the end
-pub answered-push : (puts : List FirstPut) (answers : List PutAnswer) (taken : List NameId) (old mid new : TableObject) (put : FirstPut) (answer : PutAnswer) →
-    AreAnswered taken old puts answers mid → IsAnswered (taken_behind taken puts answers) mid put answer new → AreAnswered taken old (puts ++ put ∷ []) (answers ++ answer ∷ []) new
-answered-push [] [] taken old mid new put answer are is = (new, subst (λ (t : TableObject). IsAnswered taken t put answer new) are is, refl)
-answered-push [] (a ∷ answers) taken old mid new put answer are is = absurd are
-answered-push (p ∷ puts) [] taken old mid new put answer are is = absurd are
-answered-push (p ∷ puts) (a ∷ answers) taken old mid new put answer are is =
-    (are.0, are.1, answered-push puts answers (taken_with taken p.name a) are.0 mid new put answer are.2 is)
+pub answered-push : (puts : List FirstPut) (answers : List PutAnswer) (given : List NameId) (old mid new : TableObject) (put : FirstPut) (answer : PutAnswer) →
+    AreAnswered given old puts answers mid → IsAnswered (given_after given puts answers) mid put answer new → AreAnswered given old (puts ++ put ∷ []) (answers ++ answer ∷ []) new
+answered-push [] [] given old mid new put answer are is = (new, subst (λ (t : TableObject). IsAnswered given t put answer new) are is, refl)
+answered-push [] (a ∷ answers) given old mid new put answer are is = absurd are
+answered-push (p ∷ puts) [] given old mid new put answer are is = absurd are
+answered-push (p ∷ puts) (a ∷ answers) given old mid new put answer are is =
+    (are.0, are.1, answered-push puts answers (given_with given p.name a) are.0 mid new put answer are.2 is)
 
-pub taken-push : (puts : List FirstPut) (answers : List PutAnswer) (taken : List NameId) (old mid : TableObject) (put : FirstPut) (answer : PutAnswer) →
-    AreAnswered taken old puts answers mid → taken_behind taken (puts ++ put ∷ []) (answers ++ answer ∷ []) ≡ taken_with (taken_behind taken puts answers) put.name answer
-taken-push [] [] taken old mid put answer are = refl
-taken-push [] (a ∷ answers) taken old mid put answer are = absurd are
-taken-push (p ∷ puts) [] taken old mid put answer are = absurd are
-taken-push (p ∷ puts) (a ∷ answers) taken old mid put answer are = taken-push puts answers (taken_with taken p.name a) are.0 mid put answer are.2
+pub given-push : (puts : List FirstPut) (answers : List PutAnswer) (given : List NameId) (old mid : TableObject) (put : FirstPut) (answer : PutAnswer) →
+    AreAnswered given old puts answers mid → given_after given (puts ++ put ∷ []) (answers ++ answer ∷ []) ≡ given_with (given_after given puts answers) put.name answer
+given-push [] [] given old mid put answer are = refl
+given-push [] (a ∷ answers) given old mid put answer are = absurd are
+given-push (p ∷ puts) [] given old mid put answer are = absurd are
+given-push (p ∷ puts) (a ∷ answers) given old mid put answer are = given-push puts answers (given_with given p.name a) are.0 mid put answer are.2
 
-pub lines-push : (names : List (List ℕ)) (puts : List FirstPut) (answers : List PutAnswer) (taken : List NameId) (old mid : TableObject) (put : FirstPut) (answer : PutAnswer) →
-    AreAnswered taken old puts answers mid → lines_of names (puts ++ put ∷ []) (answers ++ answer ∷ []) ≡ lines_of names puts answers ++ line_of names put.name answer
-lines-push names [] [] taken old mid put answer are = append-nil (line_of names put.name answer)
-lines-push names [] (a ∷ answers) taken old mid put answer are = absurd are
-lines-push names (p ∷ puts) [] taken old mid put answer are = absurd are
-lines-push names (p ∷ puts) (a ∷ answers) taken old mid put answer are =
-    ap (λ l. line_of names p.name a ++ l) (lines-push names puts answers (taken_with taken p.name a) are.0 mid put answer are.2) ∙
+pub lines-push : (names : List (List ℕ)) (puts : List FirstPut) (answers : List PutAnswer) (given : List NameId) (old mid : TableObject) (put : FirstPut) (answer : PutAnswer) →
+    AreAnswered given old puts answers mid → lines_of names (puts ++ put ∷ []) (answers ++ answer ∷ []) ≡ lines_of names puts answers ++ line_of names put.name answer
+lines-push names [] [] given old mid put answer are = append-nil (line_of names put.name answer)
+lines-push names [] (a ∷ answers) given old mid put answer are = absurd are
+lines-push names (p ∷ puts) [] given old mid put answer are = absurd are
+lines-push names (p ∷ puts) (a ∷ answers) given old mid put answer are =
+    ap (λ l. line_of names p.name a ++ l) (lines-push names puts answers (given_with given p.name a) are.0 mid put answer are.2) ∙
     sym (append_assoc (line_of names p.name a) (lines_of names puts answers) (line_of names put.name answer))
 
 pub nodes-push : (puts : List FirstPut) (put : FirstPut) → nodes_in (puts ++ put ∷ []) ≡ nodes_in puts + length put.graph
@@ -76,43 +76,45 @@ stayed old new put answer sound met same holds = record {
   limit = ap (λ (t : TableObject). t.limit) same;
 }
 
--- a number has its tree in the table behind too
+-- a number has its tree in the later table too
 holds-kept : (old new : TableObject) (put : FirstPut) (answer : PutAnswer) → KeepsTrees old new → IsKeptTree old put answer → IsKeptTree new put answer
 holds-kept old new put NameTaken keeps holds = tt
 holds-kept old new put NotGround keeps holds = tt
+holds-kept old new put (TooLarge count) keeps holds = tt
 holds-kept old new put (Kept h) keeps holds =
     let k = keeps h.0 holds.0 in
     (k.0, λ path. k.1 path ∙ holds.1 path)
 
-pub goes : (taken : List NameId) (old new : TableObject) (put : FirstPut) (answer : PutAnswer) → IsSound old → AreAllMet old → IsAnswered taken old put answer new → Goes old new put answer
-goes taken old new put NameTaken sound met is = stayed old new put NameTaken sound met is.1 tt
-goes taken old new put NotGround sound met is = stayed old new put NotGround sound met is.2 tt
-goes taken old new put (Kept h) sound met is =
+pub goes : (given : List NameId) (old new : TableObject) (put : FirstPut) (answer : PutAnswer) → IsSound old → AreAllMet old → IsAnswered given old put answer new → Goes old new put answer
+goes given old new put NameTaken sound met is = stayed old new put NameTaken sound met is.1 tt
+goes given old new put NotGround sound met is = stayed old new put NotGround sound met is.2 tt
+goes given old new put (TooLarge count) sound met is = stayed old new put (TooLarge count) sound met is.3 tt
+goes given old new put (Kept h) sound met is =
     let i = is.2 in
-    let lasts = interns_to_lasts old new 0 put.graph put.root h.0 sound i in
+    let lasts = interns_to_lasts old new 0 put.graph put.root h.0 sound (record { tree = i.tree; is = i.is; kept = i.kept }) in
     record {
       trees = lasts.trees;
       holds = (lasts.has, lasts.tree);
       sound = lasts.sound;
-      met = intern_keeps_met old new 0 h.0 i.tree sound met i.is_tree i.kept;
-      limit = sym (ap (λ (t : TableObject). t.limit) (intern_kept old new 0 h.0 i.tree i.kept).1);
+      met = intern_keeps_met old new 0 h.0 i.tree sound met i.is.is_tree i.kept;
+      limit = limit_kept old new 0 h.0 i.tree i.kept;
     }
 
 -- a command more
-pub run-push : (names : List (List ℕ)) (begun : List ℕ) (puts : List FirstPut) (taken taken' : List NameId) (table table' : TableObject) (text text' : List ℕ) (put : FirstPut) (answer : PutAnswer) →
-    HaveRun names begun puts taken table text → IsAnswered taken table put answer table' → taken' ≡ taken_with taken put.name answer →
+pub run-push : (names : List (List ℕ)) (begun : List ℕ) (puts : List FirstPut) (given given' : List NameId) (table table' : TableObject) (text text' : List ℕ) (put : FirstPut) (answer : PutAnswer) →
+    HaveRun names begun puts given table text → IsAnswered given table put answer table' → given' ≡ given_with given put.name answer →
     length table'.rows ≤ length table.rows + length put.graph → text' ≡ text ++ line_of names put.name answer →
-    HaveRun names begun (puts ++ put ∷ []) taken' table' text'
-run-push names begun puts taken taken' table table' text text' put answer have is taken_is size text_is =
-    let g = goes taken table table' put answer have.sound have.met is in
+    HaveRun names begun (puts ++ put ∷ []) given' table' text'
+run-push names begun puts given given' table table' text text' put answer have is given_is size text_is =
+    let g = goes given table table' put answer have.sound have.met is in
     let are = have.answered in
     record {
       answers = have.answers ++ answer ∷ [];
-      answered = answered-push puts have.answers [] (empty_table row_limit) table table' put answer are
-          (subst (λ (ns : List NameId). IsAnswered ns table put answer table') have.taken_are is);
-      taken_are = taken_is ∙ ap (λ ns. taken_with ns put.name answer) have.taken_are ∙ sym (taken-push puts have.answers [] (empty_table row_limit) table put answer are);
+      answered = answered-push puts have.answers [] (empty_table ROW_LIMIT) table table' put answer are
+          (subst (λ (ns : List NameId). IsAnswered ns table put answer table') have.given_are is);
+      given_are = given_is ∙ ap (λ ns. given_with ns put.name answer) have.given_are ∙ sym (given-push puts have.answers [] (empty_table ROW_LIMIT) table put answer are);
       lines = text_is ∙ ap (λ t. t ++ line_of names put.name answer) have.lines ∙ append_assoc begun (lines_of names puts have.answers) (line_of names put.name answer) ∙
-          ap (λ l. begun ++ l) (sym (lines-push names puts have.answers [] (empty_table row_limit) table put answer are));
+          ap (λ l. begun ++ l) (sym (lines-push names puts have.answers [] (empty_table ROW_LIMIT) table put answer are));
       hold = zip-push (IsKeptTree table) (IsKeptTree table') puts have.answers put answer (λ p a. holds-kept table table' p a g.trees) have.hold g.holds;
       sound = g.sound;
       met = g.met;
@@ -120,12 +122,12 @@ run-push names begun puts taken taken' table table' text text' put answer have i
       limit = g.limit ∙ have.limit;
     }
 
--- in front of all commands
-pub run-start : (names : List (List ℕ)) (text : List ℕ) (taken : List NameId) (table : TableObject) → taken ≡ [] → table ≡ empty_table row_limit → IsSound table → HaveRun names text [] taken table text
-run-start names text taken table taken_is table_is sound = record {
+-- before all commands
+pub run-start : (names : List (List ℕ)) (text : List ℕ) (given : List NameId) (table : TableObject) → given ≡ [] → table ≡ empty_table ROW_LIMIT → IsSound table → HaveRun names text [] given table text
+run-start names text given table given_is table_is sound = record {
   answers = [];
   answered = table_is;
-  taken_are = taken_is;
+  given_are = given_is;
   lines = sym (append-nil text);
   hold = tt;
   sound = sound;
@@ -148,10 +150,10 @@ closing-met t sound met =
     ap (λ (s : TableObject). counts_line (swept t) (length s.rows) (length s.pins)) e ∙ ap (λ n. counts_line n (length t.rows) (length t.pins)) gone
 
 -- the text of a run, from its parts
-pub text-run : (first : First) (begun text whole : List ℕ) (taken : List NameId) (table : TableObject) →
-    (have : HaveRun first.names begun first.puts taken table text) → begun ≡ session_line first.names first.session → whole ≡ text ++ counts_line 0 (length table.rows) (length table.pins) →
+pub text-run : (first : First) (begun text whole : List ℕ) (given : List NameId) (table : TableObject) →
+    (have : HaveRun first.names begun first.puts given table text) → begun ≡ session_line first.names first.session → whole ≡ text ++ counts_line 0 (length table.rows) (length table.pins) →
     IsRun first whole
-text-run first begun text whole taken table have begun_is whole_is = record {
+text-run first begun text whole given table have begun_is whole_is = record {
   answers = have.answers;
   table = table;
   answered = have.answered;
@@ -159,16 +161,4 @@ text-run first begun text whole taken table have begun_is whole_is = record {
   written = whole_is ∙ ap (λ t. t ++ counts_line 0 (length table.rows) (length table.pins)) have.lines ∙
       ap (λ b. b ++ lines_of first.names first.puts have.answers ++ counts_line 0 (length table.rows) (length table.pins)) begun_is ∙
       ap (λ c. session_line first.names first.session ++ lines_of first.names first.puts have.answers ++ c) (sym (closing-met table have.sound have.met));
-}
-
--- the empty table is sound
-pub sound_empty : (cap : ℕ) → IsSound (empty_table cap)
-unfolding IsDistinct
-sound_empty cap = record {
-  numbers = tt;
-  below = All-nil (λ (row : Row). row.number < 0);
-  closed = record { count = All-nil (λ (row : Row). length row.kids ≡ arity_of row.label); kids = All-nil (λ (row : Row). All (HasRow []) row.kids) };
-  pins = All-nil (λ (pin : ℕ × ℕ). HasRow [] pin.1);
-  limit = omega arith;
-  apart = λ a b has other same. absurd (let e : ◌≡◌ {A = Bool} false true = has in cc);
 }

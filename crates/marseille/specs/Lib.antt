@@ -1,6 +1,6 @@
 pub mod Ready
 pub mod Run
-pub mod Runs
+pub mod RunInside
 pub mod Text
 pub mod Top
 pub mod Words

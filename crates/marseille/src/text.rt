@@ -1,6 +1,6 @@
 //! The lines that the program writes.
 ghost use Rattle.std.specs.Prelude.{◌≡◌, ◌++◌, ◌<◌, length, OnOk};
-ghost use Rattle.mars_table.specs.Object.{TableObject, sweep, swept, count};
+ghost use Rattle.mars_table.specs.Object.{TableObject, sweep, swept, counts_of};
 ghost use Rattle.marseille.specs.Text.{session_line, line_of, closing_line, counts_line};
 
 use crate::run::PutAnswer;
@@ -23,7 +23,7 @@ pub(crate) fn push_session(
     Ok(())
 }
 
-/// Writes the line of a command that gives a name.
+/// Writes the line of a command.
 pub(crate) fn push_answer(
     text: &mut Vec<u8>,
     names: &Names,
@@ -36,6 +36,12 @@ pub(crate) fn push_answer(
     match answer {
         PutAnswer::NameTaken => text.extend_from_slice(b"name taken\n")?,
         PutAnswer::NotGround => text.extend_from_slice(b"not ground\n")?,
+        PutAnswer::TooLarge(count) => {
+            let mut buffer = Buffer::new();
+            text.extend_from_slice(b"too large ")?;
+            text.extend_from_slice(buffer.format(count).as_bytes())?;
+            text.extend_from_slice(b"\n")?;
+        }
         PutAnswer::Kept(handle) => {
             let mut buffer = Buffer::new();
             text.extend_from_slice(b"kept ")?;

@@ -1,6 +1,6 @@
 use Rattle.std.proofs.Common.{◌≡◌, ◌<◌, length, vec_len, sym, ◌∙◌, arith, rules, eqb-true}
 use Rattle.std.proofs.lemmas.List.{get_or_read}
-use Rattle.mars_table.proofs.Grown.{tree_some}
+use Rattle.mars_table.proofs.TreeFacts.{tree_some}
 use Rattle.mars_table.proofs.WithFresh.{numbers_size, root_number, has_grown, has_not_grown, nil_of}
 use Rattle.mars_table.proofs.rows.grow.Goals as goal
 

@@ -1,7 +1,7 @@
 use Rattle.std.proofs.Common.{◌≡◌, ℕ, ◌+◌, List, length, map, Some, None, ap, sym, ◌∙◌, arith, rules, [], ◌∷◌, ◌++◌}
 use Rattle.std.specs.List.{range_with_len}
 use Rattle.mars_table.specs.Finding.{find_row}
-use Rattle.mars_table.specs.Object.{number_of}
+use Rattle.mars_table.specs.Object.{row_number}
 use Rattle.mars_table.specs.Rows.{Row}
 use Rattle.mars_table.specs.TableInside.{rows_of}
 use Rattle.mars_table.proofs.FreshRows.{numbers_more, number_some, number_none, fresh_some, fresh_none, length-fresh}
@@ -30,17 +30,17 @@ loop-node-preserved c =
           let found : find_row rows tree node ≡ Some w.in-Some.row = sym c.in_ok-row.ensures ∙ w.in-Some.is in
           record {
             numbers = ap (λ v. v.items) w.numbers-is ∙ w.in_ok-push-in-Some.ensures.items ∙ ap (λ xs. xs ++ w.in-Some.row ∷ []) i.numbers
-                ∙ ap (λ k. map (number_of rows next tree) (range_with_len 0 node) ++ k ∷ []) (sym (number_some rows next tree node w.in-Some.row found)) ∙ sym (numbers_more rows next tree node);
+                ∙ ap (λ k. map (row_number rows next tree) (range_with_len 0 node) ++ k ∷ []) (sym (number_some rows next tree node w.in-Some.row found)) ∙ sym (numbers_more rows next tree node);
             fresh = ap (λ v. v.items) w.fresh-is ∙ i.fresh ∙ sym (fresh_some rows next tree node w.in-Some.row found);
           }
       | in-None+in_ok-push-in-None+in_ok-push-in-None-2 w ↦
           let found : find_row rows tree node ≡ None = sym c.in_ok-row.ensures ∙ w.in-None.is in
           let size : w.len-in-None.result ≡ length c.loop-node.fresh.items = search rules in
-          let number : w.len.result + w.len-in-None.result ≡ number_of rows next tree node =
+          let number : w.len.result + w.len-in-None.result ≡ row_number rows next tree node =
           omega (arith, w.len.ensures.len, size, ap length i.fresh, length-fresh rows next tree node, number_none rows next tree node found) in
           record {
             numbers = ap (λ v. v.items) w.numbers-is ∙ w.in_ok-push-in-None.ensures.items ∙ ap (λ xs. xs ++ (w.len.result + w.len-in-None.result) ∷ []) i.numbers
-                ∙ ap (λ k. map (number_of rows next tree) (range_with_len 0 node) ++ k ∷ []) number ∙ sym (numbers_more rows next tree node);
+                ∙ ap (λ k. map (row_number rows next tree) (range_with_len 0 node) ++ k ∷ []) number ∙ sym (numbers_more rows next tree node);
             fresh = ap (λ v. v.items) w.fresh-is ∙ w.in_ok-push-in-None-2.ensures.items ∙ ap (λ xs. xs ++ node ∷ []) i.fresh ∙ sym (fresh_none rows next tree node found);
           }
     ]

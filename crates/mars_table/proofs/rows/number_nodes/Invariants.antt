@@ -1,12 +1,12 @@
 use Rattle.std.proofs.Common.{◌≡◌, length, map}
 use Rattle.std.specs.List.{range_with_len}
-use Rattle.mars_table.specs.Fresh.{fresh_nodes}
-use Rattle.mars_table.specs.Object.{number_of}
+use Rattle.mars_table.specs.FreshInside.{fresh_nodes}
+use Rattle.mars_table.specs.Object.{row_number}
 use Rattle.mars_table.specs.TableInside.{rows_of}
 use Rattle.mars_table.proofs.rows.number_nodes.Given as goal
 
 abbrev pub invariant-loop-node : goal.invariant-loop-node
 invariant-loop-node l = record {
-  numbers : l.numbers.items ≡ map (number_of (rows_of l.rows) (length l.rows) l.tree) (range_with_len 0 l.node);
+  numbers : l.numbers.items ≡ map (row_number (rows_of l.rows) (length l.rows) l.tree) (range_with_len 0 l.node);
   fresh : l.fresh.items ≡ fresh_nodes (rows_of l.rows) l.tree l.node;
 }

@@ -1,5 +1,7 @@
-use Rattle.mars_table.proofs.StaysSound.{interns_to_lasts}
+use Rattle.mars_table.proofs.CallerLemmas.{interns_to_lasts}
 use Rattle.marseille.proofs.run.run_put.Goals as goal
 
-pub returns-clause-sound : goal.returns-clause-sound
-returns-clause-sound c = (interns_to_lasts _ _ _ _ _ _ c.requires.sound c.in_ok-handle.ensures.kept).sound
+pub returns-in_ok-push-in-Small-clause-sound : goal.returns-in_ok-push-in-Small-clause-sound
+returns-in_ok-push-in-Small-clause-sound c =
+    let form = rw c.in-Small.is at c.in_ok-form_of.ensures in
+    (interns_to_lasts _ _ _ c.args.put.now.graph c.args.put.now.root _ c.requires.sound (record { tree = c.in-Small.tree; is = form.1; kept = c.in_ok-handle-in-Small.ensures.kept })).sound

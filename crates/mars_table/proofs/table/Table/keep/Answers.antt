@@ -2,7 +2,8 @@ use Rattle.std.proofs.Common.{◌≡◌, ℕ, ◌<◌, ◌≤◌, ◌+◌, [], �
 use Rattle.std.proofs.lemmas.List.Elements.{All-append, All-cons, All-nil, All-weaker}
 use Rattle.mars_table.specs.Object.{TableObject, intern, fresh_before}
 use Rattle.mars_table.specs.TableInside.{rows_of}
-use Rattle.mars_table.proofs.Grown.{grown_apart, number_in, fresh_within, tree_some}
+use Rattle.mars_table.proofs.Grown.{grown_apart, number_in, fresh_within}
+use Rattle.mars_table.proofs.TreeFacts.{tree_some}
 use Rattle.mars_table.proofs.Stored.{length-stored}
 use Rattle.mars_table.proofs.WithFresh.{HasGrown, interns_kept}
 use Rattle.mars_table.proofs.table.Table.keep.Goals as goal

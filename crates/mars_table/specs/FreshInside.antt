@@ -1,4 +1,4 @@
--- The nodes of a tree that have no row.
+-- Inside interning: the nodes of a tree that have no row.
 use Rattle.std.specs.Prelude.{ℕ, List, is_none, filter}
 use Rattle.std.specs.List.{range_with_len}
 use Rattle.mars_tree.specs.Graph.{Node}
