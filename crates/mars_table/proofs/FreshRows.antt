@@ -10,11 +10,9 @@ use Rattle.std.proofs.lemmas.List.FromFn.{get_or-map-range_with_len, length-rang
 use Rattle.mars_tree.specs.Graph.{Node, IsGraph, IsGround, label_of, kids_of, free_leaf}
 use Rattle.mars_tree.proofs.Paths.{kid_in, label_in}
 use Rattle.mars_table.specs.Finding.{find_row}
-use Rattle.mars_table.specs.FreshInside.{fresh_nodes}
+use Rattle.mars_table.specs.FreshInside.{fresh_nodes, at_places}
 use Rattle.mars_table.specs.Object.{fresh_before, row_number, fresh_row}
-use Rattle.mars_reach.specs.Order.{renumbered_node, renumbered}
-use Rattle.mars_table.specs.Renumber.{at_places}
-use Rattle.mars_table.specs.Renumber.{HasLabels, KidsFit}
+use Rattle.mars_tree.specs.Renumbered.{renumbered_node, renumbered}
 use Rattle.mars_table.specs.Rows.{Row}
 use Rattle.mars_table.specs.TableInside.{as_row, rows_from}
 use Rattle.mars_table.proofs.Added.{none_or_some}
@@ -125,44 +123,8 @@ in_range_of a zero k x e = cc
 in_range_of a (suc count) zero x e = let s : a ≡ x = same_Some a x e in (omega (arith, s), omega (arith, s))
 in_range_of a (suc count) (suc k) x e = let r = in_range_of (a + 1) count k x e in (omega (arith, r.0), omega (arith, r.1))
 
--- a list by its places
-by_places : (before g : List Node) (a : ℕ) → a ≡ length before → map (λ n. get_or (before ++ g) n free_leaf) (range_with_len a (length g)) ≡ g
-by_places before [] a e = refl
-by_places before (node ∷ g) a e =
-    let more : before ++ node ∷ g ≡ (before ++ node ∷ []) ++ g = sym (append_assoc before (node ∷ []) g) in
-    let here : get_or (before ++ node ∷ g) a free_leaf ≡ node = ap (λ n. get_or (before ++ node ∷ g) n free_leaf) e ∙ get_or-append_seam before node g free_leaf in
-    let rest : map (λ n. get_or (before ++ node ∷ g) n free_leaf) (range_with_len (a + 1) (length g)) ≡ g =
-    ap (λ (h : List Node). map (λ n. get_or h n free_leaf) (range_with_len (a + 1) (length g))) more ∙ by_places (before ++ node ∷ []) g (a + 1) (omega (arith, e, length-append before (node ∷ []))) in
-    ap (λ v. v ∷ map (λ n. get_or (before ++ node ∷ g) n free_leaf) (range_with_len (a + 1) (length g))) here ∙ ap (λ h. node ∷ h) rest
-
--- what each element is mapped to, itself
-map_same : (f : ℕ → ℕ) (xs : List ℕ) → ((k x : ℕ) → slice_get xs k ≡ Some x → f x ≡ x) → map f xs ≡ xs
-map_same f [] each = refl
-map_same f (x ∷ xs) each = ap (λ y. y ∷ map f xs) (each 0 x refl) ∙ ap (λ ys. x ∷ ys) (map_same f xs (λ k. each (suc k)))
-
-own_place : (count n : ℕ) → n < count → at_places (range_with_len 0 count) n ≡ n
-own_place count n lt = let e : 0 + n ≡ n = omega arith in get_or-range_with_len 0 count n 0 lt ∙ e
-
--- a graph under its own numbers
-pub copy_is : (g : List Node) → IsGraph g → renumbered g (at_places (range_with_len 0 (length g))) (range_with_len 0 (length g)) ≡ g
-copy_is g g_is =
-    map_like (renumbered_node g (at_places (range_with_len 0 (length g)))) (λ n. get_or g n free_leaf) (range_with_len 0 (length g))
-    (λ k n e.
-    let lt : n < length g = omega (arith, in_range_of 0 (length g) k n e) in
-    ap (λ ks. record { label = label_of g n; kids = ks }) (map_same (at_places (range_with_len 0 (length g))) (kids_of g n) (λ j kid f. own_place (length g) kid (kid_in g n j kid g_is lt f))))
-    ∙ by_places [] g 0 refl
-
-pub copy_in_range : (count : ℕ) → All (λ n. n < count) (range_with_len 0 count)
-copy_in_range count = All-from_gets (λ n. n < count) (range_with_len 0 count) (λ k n e. omega (arith, in_range_of 0 count k n e))
-
-pub copy_has_labels : (g : List Node) → IsGround g → HasLabels g (range_with_len 0 (length g))
-copy_has_labels g ground = All-from_gets (λ n. label_of g n ≢ None) (range_with_len 0 (length g)) (λ k n e. label_in g n ground (omega (arith, in_range_of 0 (length g) k n e)))
-
-pub copy_kids_fit : (g : List Node) (count : ℕ) → count ≡ length g → IsGraph g → KidsFit g (at_places (range_with_len 0 (length g))) count (range_with_len 0 (length g))
-copy_kids_fit g count size g_is = All-from_gets (λ n. All (λ kid. at_places (range_with_len 0 (length g)) kid < count) (kids_of g n)) (range_with_len 0 (length g)) (λ k n e.
-    All-from_gets (λ kid. at_places (range_with_len 0 (length g)) kid < count) (kids_of g n) (λ j kid f.
-    let lt : kid < length g = kid_in g n j kid g_is (omega (arith, in_range_of 0 (length g) k n e)) f in
-    omega (arith, own_place (length g) kid lt, lt, size)))
+pub range_below : (count : ℕ) → All (λ n. n < count) (range_with_len 0 count)
+range_below count = All-from_gets (λ n. n < count) (range_with_len 0 count) (λ k n e. omega (arith, in_range_of 0 count k n e))
 
 -- an element that a filter keeps was there
 pub filter_in : (q : ℕ → Bool) (xs : List ℕ) (P : ℕ → Type 0) → All P xs → All P (filter q xs)
@@ -174,7 +136,7 @@ filter_in q (x ∷ xs) P all = either (q x) (filter_in q xs P (All-tail P x xs a
     either false rest = rest
 
 pub fresh_in_range : (rows : List Row) (g : List Node) (count : ℕ) → All (λ n. n < count) (fresh_nodes rows g count)
-fresh_in_range rows g count = filter_in (λ n. is_none (find_row rows g n)) (range_with_len 0 count) (λ n. n < count) (copy_in_range count)
+fresh_in_range rows g count = filter_in (λ n. is_none (find_row rows g n)) (range_with_len 0 count) (λ n. n < count) (range_below count)
 
 pub length-range : (count : ℕ) → length (range_with_len 0 count) ≡ count
 length-range count = length-range_with_len 0 count

@@ -6,7 +6,6 @@ pub mod FoundNodes
 pub mod FreshRows
 pub mod Grown
 pub mod Pinned
-pub mod Renumbering
 pub mod RowFacts
 pub mod StaysSound
 pub mod Stored

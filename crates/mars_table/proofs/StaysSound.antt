@@ -9,7 +9,7 @@ use Rattle.mars_tree.proofs.Paths.{label_in}
 use Rattle.mars_tree.proofs.Unique.{one_from_same_roots}
 use Rattle.mars_table.specs.FreshInside.{fresh_nodes}
 use Rattle.mars_table.specs.Object.{TableObject, intern, kept, full, fresh_before, fresh_rows, row_number}
-use Rattle.mars_reach.specs.Order.{renumbered_node, renumbered}
+use Rattle.mars_tree.specs.Renumbered.{renumbered_node, renumbered}
 use Rattle.mars_table.specs.Rows.{Row, HasRow, tree_of}
 use Rattle.mars_table.specs.Sound.{IsSound}
 use Rattle.mars_table.specs.SoundLaws.{table_after, InternKeepsSound, InternsToLasts, NumbersAgree, OneInterning}

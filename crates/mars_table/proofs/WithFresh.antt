@@ -6,12 +6,10 @@ use Rattle.std.proofs.lemmas.List.Elements.{All-append, All-map, All-weaker}
 use Rattle.mars_tree.specs.Graph.{Node, IsNode, IsGraph, IsGround, label_of, kids_of}
 use Rattle.mars_tree.proofs.Graphs.{node_in}
 use Rattle.mars_tree.proofs.Paths.{kid_in, label_in}
-use Rattle.mars_table.specs.FreshInside.{fresh_nodes}
+use Rattle.mars_table.specs.FreshInside.{fresh_nodes, at_places}
 use Rattle.std.proofs.lemmas.Bool.Decides.{nat_tests}
 use Rattle.mars_table.specs.Object.{Interned, kept, full, intern, fresh_before, row_number, fresh_rows}
-use Rattle.mars_reach.specs.Order.{renumbered_node, renumbered}
-use Rattle.mars_table.specs.Renumber.{at_places}
-use Rattle.mars_table.specs.Renumber.{HasLabels, KidsFit}
+use Rattle.mars_tree.specs.Renumbered.{renumbered_node, renumbered, HaveKids, KidsFit}
 use Rattle.mars_table.specs.Rows.{Row}
 use Rattle.mars_reach.specs.Part.{IsReduced}
 use Rattle.mars_table.specs.TableInside.{rows_from, rows_of}
@@ -38,7 +36,7 @@ module _ (g tree : List Node) (numbers fresh : List ℕ) (g_is : IsGraph g) (gro
   in_tree : (k n : ℕ) → slice_get fresh k ≡ Some n → n < length tree
   in_tree k n e = All-slice_get (λ n. n < length tree) fresh k n fresh_below e
 
-  pub fresh_has_labels : HasLabels tree fresh
+  fresh_has_labels : All (λ n. label_of tree n ≢ None) fresh
   fresh_has_labels = All-from_gets (λ n. label_of tree n ≢ None) fresh (λ k n e. label_in tree n is_tree.labels (in_tree k n e))
 
   pub numbers_size : length numbers ≡ length tree
@@ -55,6 +53,10 @@ module _ (g tree : List Node) (numbers fresh : List ℕ) (g_is : IsGraph g) (gro
       let below : row_number (rows_of g) (length g) tree n < length g + fresh_before (rows_of g) tree (length tree) =
       number_below (rows_of g) (length g) tree n (length tree) lt (λ h e. (found_is g tree g_is ground apart is_tree.graph is_tree.labels n lt h e).0) in
       omega (arith, below, number_at n lt, fresh_count)
+
+  pub fresh_have_kids : HaveKids (λ n. n < length numbers) tree fresh
+  fresh_have_kids = All-from_gets (λ n. All (λ kid. kid < length numbers) (kids_of tree n)) fresh (λ k n e.
+      All-from_gets (λ kid. kid < length numbers) (kids_of tree n) (λ j kid f. let lt : kid < length tree = kid_in tree n j kid is_tree.graph (in_tree k n e) f in omega (arith, lt, numbers_size)))
 
   pub fresh_kids_fit : KidsFit tree (at_places numbers) (length g + length fresh) fresh
   fresh_kids_fit = All-from_gets (λ n. All (λ kid. at_places numbers kid < length g + length fresh) (kids_of tree n)) fresh (λ k n e.
@@ -99,14 +101,6 @@ module _ (g tree : List Node) (numbers fresh : List ℕ) (g_is : IsGraph g) (gro
         labels = subst (λ (h : List Node). All (λ node. node.label ≢ None) h) (sym e)
             (All-append (λ node. node.label ≢ None) g more ground (All-map (λ node. node.label ≢ None) (renumbered_node tree (at_places numbers)) fresh fresh_has_labels));
       }
-
-  -- where no node is fresh the rows are as they were
-  pub has_not_grown : fresh ≡ [] → HasGrown g tree g
-  has_not_grown none = has_grown g (sym (append-nil g) ∙ ap (λ ns. g ++ renumbered tree (at_places numbers) ns) (sym none))
-
-pub nil_of : (xs : List ℕ) → length xs ≡ 0 → xs ≡ []
-nil_of [] e = refl
-nil_of (x ∷ xs) e = absurd (omega arith)
 
 -- what interning gives where the limit allows it
 pub interns_kept : (g tree grown : List Node) (pins new_pins : List (ℕ × ℕ)) (cap who row : ℕ) → HasGrown g tree grown → length (rows_of g) + fresh_before (rows_of g) tree (length tree) ≤ cap →

@@ -12,5 +12,4 @@ pub mod Met
 pub mod Examples
 -- Inside: the code's own steps, promised to nobody.
 pub mod FreshInside
-pub mod Renumber
 pub mod TableInside

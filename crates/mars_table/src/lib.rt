@@ -2,7 +2,6 @@
 #![tactic(auto)]
 
 mod laws;
-mod renumber;
 mod rows;
 mod search;
 mod table;

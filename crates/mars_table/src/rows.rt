@@ -4,13 +4,10 @@ ghost use Rattle.std.specs.List.{range_with_len};
 ghost use Rattle.mars_tree.specs.Graph.{IsGraph, IsGround};
 ghost use Rattle.mars_table.specs.FreshInside.{fresh_nodes};
 ghost use Rattle.mars_table.specs.Object.{fresh_before, fresh_rows, row_number};
-ghost use Rattle.mars_reach.specs.Order.{renumbered};
-ghost use Rattle.mars_table.specs.Renumber.{at_places};
 ghost use Rattle.mars_reach.specs.Part.{IsReduced};
 ghost use Rattle.mars_table.specs.TableInside.{rows_of};
 ghost use Rattle.mars_table.specs.TreeGraph.{IsTreeGraph};
 
-use crate::renumber::add_nodes;
 use crate::search::find;
 use mars_base::NoMemory;
 use mars_tree::Graph;
@@ -46,50 +43,7 @@ fn number_nodes(alloc: Global, rows: &Graph, tree: &Graph) -> Result<Numbered, N
     Ok(Numbered { numbers, fresh })
 }
 
-/// The numbers below a count.
-fn numbers_below(alloc: Global, count: usize) -> Result<Vec<usize>, NoMemory>
-    ensures { IfOk result (λ all. all.items ≡ range_with_len 0 count) }
-{
-    let mut all = Vec::new(alloc);
-    for number in 0..count {
-        all.push(number)?;
-    }
-    Ok(all)
-}
-
-/// The same nodes in a graph of their own.
-fn copy(alloc: Global, rows: &Graph) -> Result<Graph, NoMemory>
-    requires { IsGround rows.now }
-    ensures copy { IfOk result (λ copy. copy ≡ rows.now) }
-    ensures graph { IsGraph rows.now }
-{
-    let all = numbers_below(alloc, rows.len())?;
-    let mut copy = Graph::new(alloc);
-    add_nodes(&mut copy, rows, &all, &all)?;
-    Ok(copy)
-}
-
-/// A copy of the rows, and behind them the fresh nodes of a tree.
-fn with_fresh(
-    alloc: Global,
-    rows: &Graph,
-    tree: &Graph,
-    numbered: &Numbered,
-) -> Result<Graph, NoMemory>
-    requires labels { IsGround rows.now }
-    requires apart { IsReduced rows.now }
-    requires tree { IsTreeGraph tree.now }
-    requires numbers { numbered.now.numbers.items ≡ map (row_number (rows_of rows.now) (length rows.now) tree.now) (range_with_len 0 (length tree.now)) }
-    requires fresh { numbered.now.fresh.items ≡ fresh_nodes (rows_of rows.now) tree.now (length tree.now) }
-    ensures { IfOk result (λ grown. grown ≡ rows.now ++ renumbered tree.now (at_places numbered.now.numbers.items) numbered.now.fresh.items) }
-{
-    let mut grown = copy(alloc, rows)?;
-    add_nodes(&mut grown, tree, &numbered.fresh, &numbered.numbers)?;
-    Ok(grown)
-}
-
-/// Adds the nodes of a tree that have no row, and gives the row of the root.
-/// The rows are copied where there are such nodes, so that nothing has changed where memory fails.
+/// Adds the nodes of a tree that have no row, and gives the row of the root. `NoMemory` changes nothing.
 pub(crate) fn grow(alloc: Global, rows: &mut Graph, tree: &Graph) -> Result<usize, NoMemory>
     requires graph { IsGraph rows.old }
     requires labels { IsGround rows.old }
@@ -104,10 +58,6 @@ pub(crate) fn grow(alloc: Global, rows: &mut Graph, tree: &Graph) -> Result<usiz
     ensures as_before { OnErr result (rows.new ≡ rows.old) }
 {
     let numbered = number_nodes(alloc, rows, tree)?;
-    let root = numbered.numbers[0];
-    if numbered.fresh.is_empty() {
-        return Ok(root);
-    }
-    *rows = with_fresh(alloc, rows, tree, &numbered)?;
-    Ok(root)
+    rows.append_renumbered(tree, &numbered.fresh, &numbered.numbers)?;
+    Ok(numbered.numbers[0])
 }
