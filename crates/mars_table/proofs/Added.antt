@@ -8,10 +8,9 @@ use Rattle.std.proofs.lemmas.Option.{same_Some, slice_get-map, none-some}
 use Rattle.std.proofs.lemmas.List.Elements.{All-head, All-tail, All-append, All-cons, All-nil, All-weaker, All-map}
 use Rattle.mars_tree.specs.declared.label.Label.{Label}
 use Rattle.mars_tree.specs.Label.{arity_of}
+use Rattle.mars_base.proofs.ListFacts.{one-from_gets}
 use Rattle.mars_tree.specs.Graph.{Node, IsGraph, IsGround, label_of, kids_of, arity_at, stands, shown_at, at, Same}
-use Rattle.mars_tree.proofs.Graphs.{node_in}
-use Rattle.mars_tree.proofs.Paths.{label_from_stands, stands_from_label, label_in, kid_in}
-use Rattle.mars_tree.proofs.Walks.{same_from_bisimulation}
+use Rattle.mars_tree.proofs.CallerLemmas.{node_in, label_from_stands, stands_from_label, label_in, kid_in, same_from_bisimulation}
 use Rattle.mars_table.specs.Rows.{Row, row_at, HasRow, kids_of_row, label_of_row, shown_at_row, tree_of, IsRowOf}
 use Rattle.mars_table.specs.Finding.{find_row}
 use Rattle.mars_table.specs.Object.{fresh_before, row_number, fresh_row, fresh_rows}
@@ -44,18 +43,6 @@ old_or_new (r ∷ rows) more h has = step (nat_eq r.number h) (row_at (rows ++ m
     step : (b : Bool) (o p : Option Row) → IsSome (cond b (Some r) o) → (IsSome o → IsSome p ⊎ HasRow more h) → IsSome (cond b (Some r) p) ⊎ HasRow more h
     step true o p is rest = inl refl
     step false o p is rest = rest is
-
--- two lists that agree at each place are one
-list_from_gets : (xs ys : List ℕ) → length xs ≡ length ys → ((k x y : ℕ) → slice_get xs k ≡ Some x → slice_get ys k ≡ Some y → x ≡ y) → xs ≡ ys
-list_from_gets [] [] e each = refl
-list_from_gets (x ∷ xs) (y ∷ ys) e each = ap (λ z. z ∷ xs) (each 0 x y refl refl) ∙ ap (λ zs. y ∷ zs) (list_from_gets xs ys (omega arith) (λ k. each (suc k)))
-list_from_gets [] (y ∷ ys) e each = absurd (omega arith)
-list_from_gets (x ∷ xs) [] e each = absurd (omega arith)
-
--- functions that agree on a list map it alike
-pub map_like : {X : Type 0} (f h : ℕ → X) (xs : List ℕ) → ((k x : ℕ) → slice_get xs k ≡ Some x → f x ≡ h x) → map f xs ≡ map h xs
-map_like f h [] each = refl
-map_like f h (x ∷ xs) each = ap (λ y. y ∷ map f xs) (each 0 x refl) ∙ ap (λ ys. h x ∷ ys) (map_like f h xs (λ k. each (suc k)))
 
 pub map_get : (f : ℕ → ℕ) (xs : List ℕ) (k y : ℕ) → slice_get (map f xs) k ≡ Some y → (x : ℕ) × (slice_get xs k ≡ Some x) × (f x ≡ y)
 map_get f xs k y e = option_map_some f (slice_get xs k) y (sym (slice_get-map f xs k) ∙ e)
@@ -192,7 +179,7 @@ module _ (rows : List Row) (next : ℕ) (g : List Node) (closed : AreClosed rows
       let is = found_is n h n_in e in
       let shown : shown_at_row rows h ≡ shown_at g n = same_Some (shown_at_row rows h) (shown_at g n) (is.1 []) in (
         label_from_stands (label_of_row rows h) (label_of g n) h n shown,
-        list_from_gets (kids_of_row rows h) (map (row_number rows next g) (kids_of g n)) (counted rows g closed g_is ground h n is.0 n_in shown ∙ sym (length-map (kids_of g n) (row_number rows next g)))
+        one-from_gets (kids_of_row rows h) (map (row_number rows next g) (kids_of g n)) (counted rows g closed g_is ground h n is.0 n_in shown ∙ sym (length-map (kids_of g n) (row_number rows next g)))
             (λ k x z left right.
             let y = map_get (row_number rows next g) (kids_of g n) k z right in
             let y_in : y.0 < length g = kid_in g n k y.0 g_is n_in y.1 in

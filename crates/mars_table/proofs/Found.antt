@@ -1,16 +1,14 @@
 -- What is found.
 use Rattle.std.proofs.Common.{◌≡◌, ℕ, zero, suc, ◌<◌, ◌*◌, ◌&&◌, Bool, true, false, nat_eq, List, [], ◌∷◌, length, Option, Some, None, slice_get, refl, sym, subst, ap, ◌∙◌, arith, find, eq-eqb}
-use Rattle.std.specs.Option.{option_map, option_eq}
+use Rattle.std.specs.Option.{option_map}
 use Rattle.std.specs.Bool.{Decides}
 use Rattle.std.specs.List.{list_all, zip}
 use Rattle.std.proofs.lemmas.Bool.{false≢true}
 use Rattle.std.proofs.lemmas.Option.{same_Some}
-use Rattle.mars_tree.specs.Equality.{same_label}
+use Rattle.mars_tree.specs.Equality.{same_label_at}
 use Rattle.mars_tree.specs.EqualityLaws.{label_at_decides}
 use Rattle.mars_tree.specs.Graph.{Node, IsGraph, IsGround, label_of, kids_of, arity_at, shown_at, at}
-use Rattle.mars_tree.proofs.Graphs.{node_in}
-use Rattle.mars_tree.proofs.Paths.{graph_is_finite, label_from_stands, stands_from_label, label_in, kid_in}
-use Rattle.mars_tree.proofs.Walks.{at_both, both_from_length, same_from_short}
+use Rattle.mars_tree.proofs.CallerLemmas.{node_in, graph_is_finite, label_from_stands, stands_from_label, label_in, kid_in, at_both, both_from_length, same_from_short}
 use Rattle.mars_table.specs.Rows.{Row, row_at, HasRow, kids_of_row, label_of_row, shown_at_row, tree_of, IsRowOf}
 use Rattle.mars_table.specs.Finding.{alike}
 use Rattle.mars_table.specs.Sound.{AreClosed}
@@ -45,7 +43,7 @@ module _ (rows : List Row) (g : List Node) (closed : AreClosed rows) (g_is : IsG
   alike_decides (suc depth) h n has n_in =
       let f : ℕ × ℕ → Bool = λ kids. alike depth rows kids.0 g kids.1 in (
         λ e path lt.
-            let parts = both_true (option_eq same_label (label_of_row rows h) (label_of g n)) (list_all f (zip (kids_of_row rows h) (kids_of g n))) e in
+            let parts = both_true (same_label_at (label_of_row rows h) (label_of g n)) (list_all f (zip (kids_of_row rows h) (kids_of g n))) e in
             let label = (label_at_decides (label_of_row rows h) (label_of g n)).0 parts.0 in
             let shown : shown_at_row rows h ≡ shown_at g n = sym (stands_from_label (label_of g n) (label_of_row rows h) n h (sym label) (label_in g n ground n_in)) in
             along shown (λ x y k path lt left right.

@@ -1,11 +1,11 @@
 -- Finding a row by comparing nodes.
 use Rattle.std.proofs.Common.{◌≡◌, ℕ, ◌<◌, List, [], length, Some, None, sym, ◌∙◌, inl, inr}
 use Rattle.mars_tree.specs.Graph.{Node, IsGraph, IsGround, label_of, shown_at, Same}
-use Rattle.mars_tree.proofs.Paths.{label_from_stands}
+use Rattle.mars_tree.proofs.CallerLemmas.{label_from_stands}
 use Rattle.std.proofs.lemmas.Option.{same_Some}
 use Rattle.mars_table.specs.Finding.{find_row}
 use Rattle.mars_table.specs.Rows.{HasRow, IsRowOf}
-use Rattle.mars_reach.specs.Part.{IsReduced}
+use Rattle.mars_tree.specs.Canonical.{IsReduced}
 use Rattle.mars_table.specs.TableInside.{rows_of}
 use Rattle.mars_table.proofs.Found.{find_means}
 use Rattle.mars_table.proofs.Added.{none_or_some}

@@ -1,14 +1,12 @@
 -- Fresh nodes as rows.
-use Rattle.std.proofs.Common.{◌≡◌, ◌≢◌, ℕ, zero, suc, ◌<◌, ◌≤◌, ◌+◌, Bool, true, false, cond, is_none, unwrap_or, List, [], ◌∷◌, ◌++◌, length, map, filter, get_or, Option, Some, None, slice_get, refl, sym, ap, ◌∙◌, arith, inl, inr, All, length-append, append-nil, append_assoc}
-use Rattle.std.proofs.Math.Seq.{get_or-append_seam}
+use Rattle.std.proofs.Common.{◌≡◌, ℕ, zero, suc, ◌<◌, ◌≤◌, ◌+◌, Bool, true, false, cond, is_none, unwrap_or, List, [], ◌∷◌, ◌++◌, length, map, filter, Option, Some, None, slice_get, refl, sym, ap, ◌∙◌, arith, inl, inr, All, length-append, append-nil}
 use Rattle.std.specs.List.{range_with_len, filter_map, cons_option}
 use Rattle.std.proofs.lemmas.Option.{same_Some}
 use Rattle.std.proofs.lemmas.List.{map-append}
 use Rattle.std.proofs.lemmas.List.Elements.{All-tail, All-head, All-cons, filter-append}
 use Rattle.std.proofs.lemmas.Bool.{cases_eq}
-use Rattle.std.proofs.lemmas.List.FromFn.{get_or-map-range_with_len, length-range_with_len, get_or-range_with_len}
-use Rattle.mars_tree.specs.Graph.{Node, IsGraph, IsGround, label_of, kids_of, free_leaf}
-use Rattle.mars_tree.proofs.Paths.{kid_in, label_in}
+use Rattle.std.proofs.lemmas.List.FromFn.{get_or-map-range_with_len, length-range_with_len}
+use Rattle.mars_tree.specs.Graph.{Node}
 use Rattle.mars_table.specs.Finding.{find_row}
 use Rattle.mars_table.specs.FreshInside.{fresh_nodes, at_places}
 use Rattle.mars_table.specs.Object.{fresh_before, row_number, fresh_row}
@@ -16,8 +14,7 @@ use Rattle.mars_tree.specs.Renumbered.{renumbered_node, renumbered}
 use Rattle.mars_table.specs.Rows.{Row}
 use Rattle.mars_table.specs.TableInside.{as_row, rows_from}
 use Rattle.mars_table.proofs.Added.{none_or_some}
-use Rattle.mars_reach.proofs.Numbers.{All-from_gets}
-use Rattle.mars_table.proofs.Added.{map_like}
+use Rattle.mars_base.proofs.ListFacts.{All-from_gets}
 
 -- one more number
 pub range_more : (a n : ℕ) → range_with_len a (n + 1) ≡ range_with_len a n ++ (a + n) ∷ []

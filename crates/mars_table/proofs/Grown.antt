@@ -5,7 +5,7 @@ use Rattle.mars_table.specs.Finding.{find_row}
 use Rattle.mars_tree.specs.Graph.{Node, IsGraph, IsGround}
 use Rattle.mars_table.specs.Rows.{Row, HasRow, SameRow}
 use Rattle.mars_table.specs.Object.{row_number, fresh_before, fresh_rows}
-use Rattle.mars_reach.specs.Part.{IsReduced}
+use Rattle.mars_tree.specs.Canonical.{IsReduced}
 use Rattle.mars_table.specs.TableInside.{as_row, rows_from, rows_of}
 use Rattle.mars_table.specs.TableLaws.{InternsTrees}
 use Rattle.mars_table.specs.TreeGraph.{IsTreeGraph}

@@ -1,18 +1,12 @@
 -- Rows that walks from pins meet, after an interning and after a sweep.
-use Rattle.std.proofs.Common.{◌≡◌, ℕ, zero, suc, ◌<◌, ◌+◌, Bool, true, false, cond, nat_eq, nat_lt, List, [], ◌∷◌, ◌++◌, length, take, filter, Option, Some, None, option_and_then, slice_get, refl, sym, subst, ap, ◌∙◌, arith, inl, inr, All, IsSome, Contains, eq-eqb}
+use Rattle.std.proofs.Common.{◌≡◌, ℕ, zero, suc, ◌<◌, ◌+◌, Bool, true, false, cond, nat_eq, nat_lt, List, [], ◌∷◌, ◌++◌, length, filter, Option, Some, None, option_and_then, slice_get, refl, sym, subst, ap, ◌∙◌, arith, inl, inr, All, IsSome, eq-eqb}
 use Rattle.std.specs.Option.{option_map}
-use Rattle.std.specs.List.{flat_map}
-use Rattle.std.proofs.lemmas.Option.{option_and_then_some, same_Some, slice_get-get_or, slice_get-map}
-use Rattle.std.proofs.lemmas.List.Elements.{All-contains, Contains-append_left, Contains-append_cases, Contains-push, filter_passes}
+use Rattle.std.proofs.lemmas.Option.{option_and_then_some, same_Some, slice_get-map}
+use Rattle.std.proofs.lemmas.List.Elements.{All-contains, Contains-append_left, Contains-push, filter_passes}
 use Rattle.mars_tree.specs.Graph.{Node, IsGraph, IsGround, kids_of, end_of, Same}
-use Rattle.mars_tree.specs.Canonical.{IsCanonical}
-use Rattle.mars_tree.proofs.Walks.{walk-push}
-use Rattle.mars_tree.proofs.Paths.{kid_in}
-use Rattle.mars_tree.proofs.Unique.{roots_in}
+use Rattle.mars_tree.proofs.CallerLemmas.{kid_in}
 use Rattle.mars_table.specs.Rows.{Row, row_at, HasRow, kids_of_row, row_end, IsRowOf}
-use Rattle.mars_table.specs.Object.{TableObject, fresh_before, fresh_rows, row_number, sweep, is_met}
-use Rattle.mars_table.specs.Object.{intern}
-use Rattle.mars_table.specs.TreeGraph.{IsTreeGraph}
+use Rattle.mars_table.specs.Object.{TableObject, fresh_before, fresh_rows, row_number, sweep, is_met, intern}
 use Rattle.mars_table.specs.Object.Interned.{kept, full}
 use Rattle.mars_table.specs.Sound.{AreClosed, IsApart, IsMet}
 use Rattle.mars_table.specs.Lasting.{KeepsTrees, InternKeepsTrees}

@@ -1,5 +1,5 @@
 -- Rows by their numbers.
-use Rattle.std.proofs.Common.{◌≡◌, ◌≢◌, ℕ, suc, ◌<◌, Bool, true, false, cond, nat_eq, List, [], ◌∷◌, length, Option, Some, None, unwrap_or, slice_get, refl, sym, subst, ap, ◌∙◌, arith, inl, inr, All, IsSome, find, ◌⊎◌, eqb-true}
+use Rattle.std.proofs.Common.{◌≡◌, ℕ, suc, ◌<◌, Bool, true, false, cond, nat_eq, List, [], ◌∷◌, length, Option, Some, None, unwrap_or, slice_get, refl, sym, subst, ap, ◌∙◌, arith, inl, inr, All, IsSome, find, ◌⊎◌, eqb-true}
 use Rattle.std.specs.Option.{option_map}
 use Rattle.std.specs.List.{filter_map, cons_option}
 use Rattle.std.proofs.lemmas.Bool.{false≢true}
@@ -7,7 +7,7 @@ use Rattle.std.proofs.lemmas.Option.{slice_get_within, get_or_from_slice_get, sa
 use Rattle.std.proofs.lemmas.List.Elements.{All-head, All-tail, All-get_or}
 use Rattle.mars_tree.specs.Label.{arity_of}
 use Rattle.mars_tree.specs.Graph.{arity_at}
-use Rattle.mars_tree.proofs.Walks.{IsFinite}
+use Rattle.mars_tree.proofs.CallerLemmas.{IsFinite}
 use Rattle.mars_table.specs.Rows.{Row, row_at, HasRow, kids_of_row, label_of_row}
 use Rattle.mars_table.specs.Sound.{AreClosed}
 

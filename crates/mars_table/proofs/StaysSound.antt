@@ -5,8 +5,7 @@ use Rattle.std.proofs.lemmas.Bool.Decides.{nat_tests}
 use Rattle.std.proofs.lemmas.List.{length-map}
 use Rattle.std.proofs.lemmas.List.Elements.{All-append, All-cons, All-nil, All-weaker, All-map}
 use Rattle.mars_tree.specs.Graph.{Node, IsGround, label_of, free_leaf, Same}
-use Rattle.mars_tree.proofs.Paths.{label_in}
-use Rattle.mars_tree.proofs.Unique.{one_from_same_roots}
+use Rattle.mars_tree.proofs.CallerLemmas.{label_in, one_from_same_roots}
 use Rattle.mars_table.specs.FreshInside.{fresh_nodes}
 use Rattle.mars_table.specs.Object.{TableObject, intern, kept, full, fresh_before, fresh_rows, row_number}
 use Rattle.mars_tree.specs.Renumbered.{renumbered_node, renumbered}
@@ -19,7 +18,7 @@ use Rattle.mars_table.proofs.Added.{old_has, intern_means}
 use Rattle.mars_table.proofs.Distinct.{numbers, distinct-append}
 use Rattle.mars_table.proofs.FreshRows.{rows_fresh, fresh_in_range, length-fresh}
 use Rattle.mars_table.proofs.TreeFacts.{tree_some}
-use Rattle.mars_reach.proofs.Numbers.{All-from_gets, All-slice_get}
+use Rattle.mars_base.proofs.ListFacts.{All-from_gets, All-get}
 use Rattle.mars_table.proofs.Pinned.{grown, intern_keeps_trees}
 use Rattle.mars_table.proofs.Stored.{All-stored, distinct_stored, length-stored, stored_number}
 
@@ -36,7 +35,7 @@ module _ (t : TableObject) (who : ℕ) (g : List Node) (sound : IsSound t) (is :
   unfolding fresh_graph
   fresh_ground = All-map (λ node. node.label ≢ None) (renumbered_node g (row_number t.rows t.next g)) (fresh_nodes t.rows g (length g))
       (All-from_gets (λ n. label_of g n ≢ None) (fresh_nodes t.rows g (length g)) (λ k n e.
-      label_in g n is.labels (All-slice_get (λ n. n < length g) (fresh_nodes t.rows g (length g)) k n (fresh_in_range t.rows g (length g)) e)))
+      label_in g n is.labels (All-get (λ n. n < length g) (fresh_nodes t.rows g (length g)) k n (fresh_in_range t.rows g (length g)) e)))
 
   fresh_length : length fresh_graph ≡ fresh_before t.rows g (length g)
   unfolding fresh_graph

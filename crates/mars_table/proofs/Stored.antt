@@ -8,13 +8,11 @@ use Rattle.std.proofs.lemmas.List.Elements.{All-head, All-tail, All-cons, All-ni
 use Rattle.mars_tree.specs.declared.label.Label.{Label}
 use Rattle.mars_tree.specs.Label.{arity_of}
 use Rattle.mars_tree.specs.Graph.{Node, IsGraph, IsGround, label_of, kids_of, free_leaf, arity_at, stands, shown_at, at}
-use Rattle.mars_tree.proofs.Graphs.{node_in}
-use Rattle.mars_tree.proofs.Paths.{label_in, kid_in}
-use Rattle.mars_tree.proofs.Walks.{same_from_bisimulation}
+use Rattle.mars_tree.proofs.CallerLemmas.{node_in, label_in, kid_in, same_from_bisimulation}
 use Rattle.mars_table.specs.Rows.{Row, row_at, HasRow, kids_of_row, label_of_row, shown_at_row, tree_of}
 use Rattle.mars_table.specs.Sound.{AreClosed, IsApart, IsSound}
 use Rattle.mars_table.proofs.Distinct.{numbers, apart_from}
-use Rattle.mars_reach.specs.Part.{IsReduced}
+use Rattle.mars_tree.specs.Canonical.{IsReduced}
 use Rattle.mars_table.specs.TableInside.{as_row, rows_from, rows_of}
 
 -- a node with a label is a row

@@ -6,7 +6,7 @@ use Rattle.std.proofs.lemmas.Option.{same_Some, slice_get_within, get_or_from_sl
 use Rattle.std.proofs.lemmas.List.Elements.{All-cons, All-nil, All-get_or}
 use Rattle.mars_tree.specs.Label.{arity_of}
 use Rattle.mars_tree.specs.Graph.{stands}
-use Rattle.mars_tree.proofs.Walks.{same_from_bisimulation, walk-push}
+use Rattle.mars_tree.proofs.CallerLemmas.{same_from_bisimulation, walk-push}
 use Rattle.mars_table.specs.Object.{TableObject, sweep, is_met}
 use Rattle.mars_table.specs.Rows.{Row, row_at, HasRow, kids_of_row, shown_at_row, tree_of}
 use Rattle.mars_table.specs.Sound.{IsMet, IsSound}

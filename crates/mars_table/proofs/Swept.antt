@@ -6,7 +6,7 @@ use Rattle.std.proofs.lemmas.Bool.{false≢true, cases_eq}
 use Rattle.std.proofs.lemmas.Option.{option_and_then_some, same_Some, slice_get_within, slice_get-get_or, get_or_from_slice_get, slice_get-map}
 use Rattle.std.proofs.lemmas.List.Elements.{All-contains}
 use Rattle.mars_tree.specs.Walk.{walk}
-use Rattle.mars_tree.proofs.Walks.{short, walk_in}
+use Rattle.mars_tree.proofs.CallerLemmas.{short, walk_in}
 use Rattle.mars_table.specs.Rows.{Row, row_at, HasRow, kids_of_row, row_end}
 use Rattle.mars_table.specs.Object.{ends_after, is_met, sweep}
 use Rattle.mars_table.specs.TableLaws.{SweepMeans}

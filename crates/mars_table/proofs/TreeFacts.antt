@@ -1,12 +1,11 @@
 -- The canonical graph of a tree: its root, and that each of its nodes is reached.
-use Rattle.std.proofs.Common.{◌≡◌, ℕ, zero, suc, ◌<◌, List, [], ◌∷◌, ◌++◌, length, take, Option, Some, None, slice_get, ap, ◌∙◌, arith, inl, inr, Contains, refl}
+use Rattle.std.proofs.Common.{◌≡◌, ℕ, zero, suc, ◌<◌, List, [], ◌∷◌, ◌++◌, length, take, Some, None, slice_get, ap, ◌∙◌, arith, inl, inr, Contains, refl}
 use Rattle.std.specs.List.{flat_map}
 use Rattle.std.proofs.lemmas.Option.{slice_get-get_or}
 use Rattle.std.proofs.lemmas.List.Elements.{All-contains, Contains-append_cases}
 use Rattle.mars_tree.specs.Graph.{Node, kids_of, end_of}
 use Rattle.mars_tree.specs.Canonical.{IsCanonical}
-use Rattle.mars_tree.proofs.Walks.{walk-push}
-use Rattle.mars_tree.proofs.Unique.{roots_in}
+use Rattle.mars_tree.proofs.CallerLemmas.{walk-push, roots_in}
 use Rattle.mars_table.specs.TreeGraph.{IsTreeGraph}
 
 contains_get : (xs : List ℕ) (x : ℕ) → Contains xs x → (k : ℕ) × (slice_get xs k ≡ Some x)

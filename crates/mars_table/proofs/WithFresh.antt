@@ -1,25 +1,23 @@
 -- Rows with the fresh nodes of a tree after them.
-use Rattle.std.proofs.Common.{◌≡◌, ◌≢◌, false, cond, nat_lt, ℕ, ◌<◌, ◌≤◌, ◌+◌, List, [], ◌∷◌, ◌++◌, length, map, Some, None, slice_get, refl, sym, subst, ap, ◌∙◌, arith, All, length-append, append-nil}
+use Rattle.std.proofs.Common.{◌≡◌, ◌≢◌, false, cond, nat_lt, ℕ, ◌<◌, ◌≤◌, ◌+◌, List, [], ◌∷◌, ◌++◌, length, map, Some, None, slice_get, sym, subst, ap, ◌∙◌, arith, All, length-append}
 use Rattle.std.specs.List.{range_with_len}
 use Rattle.std.proofs.lemmas.List.{length-map}
 use Rattle.std.proofs.lemmas.List.Elements.{All-append, All-map, All-weaker}
 use Rattle.mars_tree.specs.Graph.{Node, IsNode, IsGraph, IsGround, label_of, kids_of}
-use Rattle.mars_tree.proofs.Graphs.{node_in}
-use Rattle.mars_tree.proofs.Paths.{kid_in, label_in}
+use Rattle.mars_tree.proofs.CallerLemmas.{node_in, kid_in, label_in}
 use Rattle.mars_table.specs.FreshInside.{fresh_nodes, at_places}
 use Rattle.std.proofs.lemmas.Bool.Decides.{nat_tests}
 use Rattle.mars_table.specs.Object.{Interned, kept, full, intern, fresh_before, row_number, fresh_rows}
 use Rattle.mars_tree.specs.Renumbered.{renumbered_node, renumbered, HaveKids, KidsFit}
 use Rattle.mars_table.specs.Rows.{Row}
-use Rattle.mars_reach.specs.Part.{IsReduced}
+use Rattle.mars_tree.specs.Canonical.{IsReduced}
 use Rattle.mars_table.specs.TableInside.{rows_from, rows_of}
 use Rattle.mars_table.specs.TreeGraph.{IsTreeGraph}
 use Rattle.mars_table.proofs.FoundNodes.{found_is}
 use Rattle.mars_table.proofs.FreshRows.{at_map, fresh_in_range, number_below, length-fresh, length-range, rows_fresh}
 use Rattle.mars_table.proofs.Grown.{rows_from-append}
 use Rattle.mars_table.proofs.TreeFacts.{tree_some}
-use Rattle.mars_reach.proofs.Numbers.{All-from_gets, All-slice_get}
-use Rattle.mars_table.proofs.Added.{map_like}
+use Rattle.mars_base.proofs.ListFacts.{map-same, All-from_gets, All-get}
 
 -- the rows have grown by the fresh rows of the tree
 pub record HasGrown (g tree grown : List Node) : Type 0 where
@@ -34,7 +32,7 @@ module _ (g tree : List Node) (numbers fresh : List ℕ) (g_is : IsGraph g) (gro
   fresh_below = subst (λ (xs : List ℕ). All (λ n. n < length tree) xs) (sym fresh_are) (fresh_in_range (rows_of g) tree (length tree))
 
   in_tree : (k n : ℕ) → slice_get fresh k ≡ Some n → n < length tree
-  in_tree k n e = All-slice_get (λ n. n < length tree) fresh k n fresh_below e
+  in_tree k n e = All-get (λ n. n < length tree) fresh k n fresh_below e
 
   fresh_has_labels : All (λ n. label_of tree n ≢ None) fresh
   fresh_has_labels = All-from_gets (λ n. label_of tree n ≢ None) fresh (λ k n e. label_in tree n is_tree.labels (in_tree k n e))
@@ -71,8 +69,8 @@ module _ (g tree : List Node) (numbers fresh : List ℕ) (g_is : IsGraph g) (gro
   more_is : more ≡ renumbered tree (row_number (rows_of g) (length g) tree) (fresh_nodes (rows_of g) tree (length tree))
   unfolding more
   more_is =
-      map_like (renumbered_node tree (at_places numbers)) (renumbered_node tree (row_number (rows_of g) (length g) tree)) fresh (λ k n e.
-      ap (λ ks. record { label = label_of tree n; kids = ks }) (map_like (at_places numbers) (row_number (rows_of g) (length g) tree) (kids_of tree n) (λ j kid f. number_at kid (kid_in tree n j kid is_tree.graph (in_tree k n e) f))))
+      map-same (renumbered_node tree (at_places numbers)) (renumbered_node tree (row_number (rows_of g) (length g) tree)) fresh (λ k n e.
+      ap (λ ks. record { label = label_of tree n; kids = ks }) (map-same (at_places numbers) (row_number (rows_of g) (length g) tree) (kids_of tree n) (λ j kid f. number_at kid (kid_in tree n j kid is_tree.graph (in_tree k n e) f))))
       ∙ ap (renumbered tree (row_number (rows_of g) (length g) tree)) fresh_are
 
   more_length : length more ≡ length fresh

@@ -3,7 +3,7 @@ use Rattle.std.specs.Prelude.{ℕ, ◌+◌, ◌^◌, ◌<◌, ◌≤◌, List, [
 use Rattle.std.specs.Option.{option_map}
 use Rattle.std.specs.List.{cons_option}
 use Rattle.mars_tree.specs.Graph.{Node, IsGraph, IsGround}
-use Rattle.mars_reach.specs.Part.{IsReduced}
+use Rattle.mars_tree.specs.Canonical.{IsReduced}
 use Rattle.mars_table.specs.declared.table.Table.TheInside.{Inside}
 use Rattle.mars_table.specs.Rows.{Row}
 use Rattle.mars_table.specs.Object.{TableObject}

@@ -12,12 +12,12 @@ pub record IsTreeGraph (g : List Node) : Type 0 where
   pub canonical : IsCanonical g (0 ∷ [])
 
 -- `tree` is the canonical graph of the tree of node `n`, which has no free leaf
-pub record IsTreeOf (g : List Node) (n : ℕ) (tree : List Node) : Type 0 where
+pub record IsTreeGraphOf (g : List Node) (n : ℕ) (tree : List Node) : Type 0 where
   pub is_tree : IsTreeGraph tree
   pub same : Same tree 0 g n
 
 -- `who` interns the tree of node `root` as number `h`: the table's answer for that tree's canonical graph
 pub record InternsTo (old : TableObject) (who : ℕ) (g : List Node) (root h : ℕ) (new : TableObject) : Type 0 where
   pub tree : List Node
-  pub is : IsTreeOf g root tree
+  pub is : IsTreeGraphOf g root tree
   pub kept : intern old who tree ≡ kept h new

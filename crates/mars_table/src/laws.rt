@@ -40,7 +40,7 @@ pub fn intern_keeps_sound()
     ensures { InternKeepsSound }
 {}
 
-/// What `Table::intern` answers for a node lasts: the table is sound, old trees stay, and the number is that of the node's tree.
+/// What is interned for a node's tree lasts: the table is sound, old trees stay, and the number is that of the tree.
 pub fn interns_to_lasts()
     ensures { InternsToLasts }
 {}

@@ -4,7 +4,7 @@ ghost use Rattle.std.specs.List.{range_with_len};
 ghost use Rattle.mars_tree.specs.Graph.{IsGraph, IsGround};
 ghost use Rattle.mars_table.specs.FreshInside.{fresh_nodes};
 ghost use Rattle.mars_table.specs.Object.{fresh_before, fresh_rows, row_number};
-ghost use Rattle.mars_reach.specs.Part.{IsReduced};
+ghost use Rattle.mars_tree.specs.Canonical.{IsReduced};
 ghost use Rattle.mars_table.specs.TableInside.{rows_of};
 ghost use Rattle.mars_table.specs.TreeGraph.{IsTreeGraph};
 

@@ -1,8 +1,8 @@
-// The search for the row of a tree: a list that is searched from its front.
+// The search for the row of a tree: the rows are compared with it, one after the other.
 ghost use Rattle.std.specs.Prelude.{◌≡◌, ◌<◌, ◌↔◌, IsTrue, length, IfOk};
 ghost use Rattle.mars_tree.specs.Graph.{label_of, IsGround, Same};
 ghost use Rattle.mars_table.specs.Finding.{find_row};
-ghost use Rattle.mars_reach.specs.Part.{IsReduced};
+ghost use Rattle.mars_tree.specs.Canonical.{IsReduced};
 ghost use Rattle.mars_table.specs.TableInside.{rows_of};
 ghost use Rattle.mars_table.specs.TreeGraph.{IsTreeGraph};
 
@@ -18,7 +18,7 @@ fn is_labelled(graph: &Graph, node: usize, label: Option<Label>) -> bool
     graph.label(node) == label
 }
 
-/// Whether two nodes are the same tree; different labels are told without a walk.
+/// Whether two nodes are the same tree. Where their labels differ, no walk is needed.
 fn agree(alloc: Global, a: &Graph, n: usize, b: &Graph, m: usize) -> Result<bool, NoMemory>
     requires n_in { n < length a.now }
     requires m_in { m < length b.now }

@@ -1,4 +1,4 @@
-// The table as one graph whose nodes are the rows, in the order of their numbers.
+// The table: one graph whose nodes are the rows, in the order of their numbers, and the pins.
 ghost use Rattle.std.specs.Prelude.{◌≡◌, ◌+◌, ◌≤◌, length, IfOk, OnOk, OnErr};
 ghost use Rattle.mars_table.specs.Object.{empty_table, intern, Interned};
 ghost use Rattle.mars_table.specs.Sound.{IsSound};

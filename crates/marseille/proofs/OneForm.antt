@@ -7,13 +7,12 @@ use Rattle.std.proofs.lemmas.List.Elements.{All-cons, All-nil}
 use Rattle.mars_tree.specs.declared.label.Label.{Label}
 use Rattle.mars_tree.specs.Graph.{Node, IsGraph, IsGround, label_of, free_leaf, shown_at, end_of, Same}
 use Rattle.mars_tree.specs.Canonical.{IsCanonical, KeepsWalks}
-use Rattle.mars_tree.proofs.Paths.{stands_from_label, label_in, end_in}
-use Rattle.mars_tree.proofs.Unique.{roots_in}
+use Rattle.mars_tree.proofs.CallerLemmas.{stands_from_label, label_in, end_in, roots_in}
 use Rattle.mars_reach.specs.Reach.{ReachesFree, ReachesNoFree}
 use Rattle.mars_canon.specs.Canon.{Rooted, IsCanon}
 use Rattle.mars_canon.specs.Tree.{FitsTree, most_nodes}
 use Rattle.mars_canon.proofs.Forms.{one_root}
-use Rattle.mars_table.specs.TreeGraph.{IsTreeOf}
+use Rattle.mars_table.specs.TreeGraph.{IsTreeGraphOf}
 use Rattle.mars_table.proofs.CallerLemmas.{node_is_reached}
 use Rattle.marseille.specs.Run.{IsTooLarge}
 
@@ -93,7 +92,7 @@ module _ (g : List Node) (root : ℕ) (c : Rooted) (is : IsCanon c) (keeps : Kee
   reaches_no_free ground = no_free_from g root c.nodes keeps_at_zero is.graph (roots_in c.nodes (0 ∷ []) is_at_zero 0 0 (omega arith)) ground
 
   -- a ground canonical graph is that of the tree
-  pub is_tree_of : IsGround c.nodes → IsTreeOf g root c.nodes
+  pub is_tree_of : IsGround c.nodes → IsTreeGraphOf g root c.nodes
   is_tree_of ground = record {
     is_tree = record { graph = is.graph; labels = ground; canonical = is_at_zero };
     same = same_tree g root c.nodes keeps_at_zero (reaches_no_free ground);

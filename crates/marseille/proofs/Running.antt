@@ -2,13 +2,12 @@
 use Rattle.std.proofs.Common.{All, Bool, true, false, zero, suc, take, get_or, ◌<◌, ◌≡◌, ℕ, ◌+◌, ◌≤◌, List, [], ◌∷◌, ◌++◌, length, refl, sym, subst, ap, ◌∙◌, arith, append_assoc, append-nil}
 use Rattle.std.specs.List.{AllZip, IsDistinct}
 use Rattle.std.proofs.lemmas.List.Elements.{All-nil}
-use Rattle.mars_table.specs.Rows.{Row}
+use Rattle.mars_table.specs.Rows.{Row, HasRow}
 use Rattle.mars_tree.specs.Label.{arity_of}
 use Rattle.mars_tree.specs.declared.label.NameId.{NameId}
 use Rattle.mars_read.specs.declared.first.FirstPut.{FirstPut}
 use Rattle.mars_read.specs.First.{nodes_in}
-use Rattle.mars_table.specs.Object.{TableObject, empty_table}
-use Rattle.mars_table.specs.Rows.{HasRow}
+use Rattle.mars_table.specs.Object.{TableObject, empty_table, sweep, swept}
 use Rattle.mars_table.specs.Sound.{IsSound}
 use Rattle.mars_table.specs.Met.{AreAllMet}
 use Rattle.mars_table.specs.Lasting.{KeepsTrees}
@@ -16,12 +15,10 @@ use Rattle.mars_table.proofs.CallerLemmas.{interns_to_lasts, intern_keeps_met, s
 use Rattle.marseille.specs.declared.run.PutAnswer.{PutAnswer}
 use Rattle.marseille.specs.declared.run.PutAnswer.TheVariants.{NameTaken, NotGround, TooLarge, Kept}
 use Rattle.marseille.specs.declared.run.TheConstants.{ROW_LIMIT}
-use Rattle.marseille.specs.Run.{IsAnswered, AreAnswered, given_with}
+use Rattle.marseille.specs.Run.{IsAnswered, AreAnswered, given_with, IsRun}
 use Rattle.marseille.specs.RunInside.{given_after, IsKeptTree, HaveRun}
 use Rattle.marseille.specs.Text.{line_of, lines_of, session_line, counts_line, closing_line}
 use Rattle.mars_read.specs.declared.first.First.{First}
-use Rattle.marseille.specs.Run.{IsRun}
-use Rattle.mars_table.specs.Object.{sweep, swept}
 use Rattle.marseille.proofs.Numbers.{numbers_of_trees}
 
 -- answers in turn, with one more at the end

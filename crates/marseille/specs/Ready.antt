@@ -1,4 +1,4 @@
--- What the reader promises of a text's commands.
+-- What the reader promises of an input's commands, so that they can be run.
 use Rattle.std.specs.Prelude.{◌<◌, ℕ, List, length, Option, Some, None}
 use Rattle.mars_tree.specs.declared.label.NameId.{NameId}
 use Rattle.mars_read.specs.declared.first.FirstPut.{FirstPut}

@@ -8,7 +8,7 @@ use Rattle.mars_reach.specs.Reach.{ReachesFree, ReachesNoFree}
 use Rattle.mars_canon.specs.Tree.{most_nodes}
 use Rattle.mars_table.specs.Object.{TableObject, empty_table, intern}
 use Rattle.mars_table.specs.Object.Interned.{kept}
-use Rattle.mars_table.specs.TreeGraph.{IsTreeOf}
+use Rattle.mars_table.specs.TreeGraph.{IsTreeGraphOf}
 use Rattle.marseille.specs.declared.run.PutAnswer.{PutAnswer}
 use Rattle.marseille.specs.declared.run.PutAnswer.TheVariants.{NameTaken, NotGround, TooLarge, Kept}
 use Rattle.marseille.specs.declared.run.TheConstants.{ROW_LIMIT}
@@ -17,14 +17,14 @@ use Rattle.marseille.specs.Text.{text_of}
 -- the tree of node `n` has `count` distinct subtrees, more than a table takes
 pub record IsTooLarge (g : List Node) (n count : ℕ) : Type 0 where
   pub tree : List Node
-  pub is : IsTreeOf g n tree
+  pub is : IsTreeGraphOf g n tree
   pub size : length tree ≡ count
   pub large : most_nodes < count
 
 -- the tree of node `n` has no more distinct subtrees than a table takes, and the table's answer for it is the number `h`
 pub record IsKeptAs (old : TableObject) (g : List Node) (n h : ℕ) (new : TableObject) : Type 0 where
   pub tree : List Node
-  pub is : IsTreeOf g n tree
+  pub is : IsTreeGraphOf g n tree
   pub few : length tree ≤ most_nodes
   pub kept : intern old 0 tree ≡ kept h new
 

@@ -11,7 +11,7 @@ use Rattle.mars_table.specs.Object.{TableObject, empty_table}
 use Rattle.mars_table.specs.Rows.{HasRow, IsRowOf}
 use Rattle.mars_table.specs.Sound.{IsSound}
 use Rattle.mars_table.specs.Met.{AreAllMet}
-use Rattle.mars_table.specs.TreeGraph.{IsTreeOf}
+use Rattle.mars_table.specs.TreeGraph.{IsTreeGraphOf}
 use Rattle.marseille.specs.declared.run.Form.{Form}
 use Rattle.marseille.specs.declared.run.Form.TheVariants.{Free, Large, Small}
 use Rattle.marseille.specs.declared.run.PutAnswer.{PutAnswer}
@@ -24,7 +24,7 @@ use Rattle.marseille.specs.Text.{lines_of}
 abbrev pub IsFormOf : List Node → ℕ → Form → Type 0
 IsFormOf g n Free = ReachesFree g n
 IsFormOf g n (Large count) = ReachesNoFree g n × IsTooLarge g n count
-IsFormOf g n (Small tree) = ReachesNoFree g n × IsTreeOf g n tree × (length tree ≤ most_nodes) × (length tree ≤ length g)
+IsFormOf g n (Small tree) = ReachesNoFree g n × IsTreeGraphOf g n tree × (length tree ≤ most_nodes) × (length tree ≤ length g)
 
 -- the names that are given after commands
 abbrev pub given_after : List NameId → List FirstPut → List PutAnswer → List NameId

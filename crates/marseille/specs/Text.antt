@@ -1,15 +1,12 @@
 -- The lines that the program writes.
-use Rattle.std.specs.Prelude.{ℕ, List, [], ◌∷◌, ◌++◌, slice_get, Option, Some, None, unwrap_or, codes, decimal}
+use Rattle.std.specs.Prelude.{ℕ, List, [], ◌∷◌, ◌++◌, Option, Some, None, codes, decimal}
 use Rattle.mars_tree.specs.declared.label.NameId.{NameId}
+use Rattle.mars_tree.specs.Names.{spelling}
 use Rattle.mars_read.specs.declared.first.First.{First}
 use Rattle.mars_read.specs.declared.first.FirstPut.{FirstPut}
 use Rattle.mars_table.specs.Object.{TableObject, sweep, swept, counts_of}
 use Rattle.marseille.specs.declared.run.PutAnswer.{PutAnswer}
 use Rattle.marseille.specs.declared.run.PutAnswer.TheVariants.{NameTaken, NotGround, TooLarge, Kept}
-
--- the spelling of a name
-abbrev pub spelling : List (List ℕ) → NameId → List ℕ
-spelling names id = unwrap_or (slice_get names id.0) []
 
 -- the line of a session
 abbrev pub session_line : List (List ℕ) → Option NameId → List ℕ

@@ -1,12 +1,21 @@
 //! The lines that the program writes.
 ghost use Rattle.std.specs.Prelude.{◌≡◌, ◌++◌, ◌<◌, length, OnOk};
-ghost use Rattle.mars_table.specs.Object.{TableObject, sweep, swept, counts_of};
-ghost use Rattle.marseille.specs.Text.{session_line, line_of, closing_line, counts_line};
+ghost use Rattle.mars_tree.specs.Names.{spelling};
+ghost use Rattle.marseille.specs.Text.{session_line, line_of, counts_line};
 
 use crate::run::PutAnswer;
 use itoa::Buffer;
 use mars_base::NoMemory;
 use mars_tree::{NameId, Names};
+
+/// Writes the spelling of a name.
+fn push_spelling(text: &mut Vec<u8>, names: &Names, name: NameId) -> Result<(), NoMemory>
+    requires { name.0 < length names.now }
+    ensures { OnOk result (text.new.items ≡ text.old.items ++ spelling names.now name) }
+{
+    text.extend_from_slice(names.text(name))?;
+    Ok(())
+}
 
 /// Writes the line of a session.
 pub(crate) fn push_session(
@@ -18,7 +27,7 @@ pub(crate) fn push_session(
     ensures { OnOk result (text.new.items ≡ text.old.items ++ session_line names.now (Some session)) }
 {
     text.extend_from_slice(b"session ")?;
-    text.extend_from_slice(names.text(session))?;
+    push_spelling(text, names, session)?;
     text.extend_from_slice(b"\n")?;
     Ok(())
 }
@@ -45,7 +54,7 @@ pub(crate) fn push_answer(
         PutAnswer::Kept(handle) => {
             let mut buffer = Buffer::new();
             text.extend_from_slice(b"kept ")?;
-            text.extend_from_slice(names.text(name))?;
+            push_spelling(text, names, name)?;
             text.extend_from_slice(b" #")?;
             text.extend_from_slice(buffer.format(handle.0).as_bytes())?;
             text.extend_from_slice(b"\n")?;

@@ -1,7 +1,7 @@
 use Rattle.std.proofs.Common.{◌≡◌, ℕ, sym, subst, ap, ◌∙◌, length, arith}
 use Rattle.std.proofs.lemmas.Bool.{false≢true}
 use Rattle.mars_canon.specs.Canon.{Rooted, IsCanon}
-use Rattle.mars_table.specs.TreeGraph.{IsTreeOf}
+use Rattle.mars_table.specs.TreeGraph.{IsTreeGraphOf}
 use Rattle.marseille.specs.Run.{IsTooLarge}
 use Rattle.marseille.proofs.OneForm.{reaches_free, reaches_no_free, is_tree_of, is_too_large}
 use Rattle.marseille.proofs.run.form_of.Goals as goal
@@ -35,7 +35,7 @@ returns-in-Some c =
     let fits = rw c.in-Some.is at c.in_ok-tree.ensures in
     let small = c.in_ok-canon.ensures.small in (
       reaches_no_free g root c.in_ok-canon.canon is keeps ground,
-      subst (IsTreeOf g root) (sym fits.1) (is_tree_of g root c.in_ok-canon.canon is keeps ground),
+      subst (IsTreeGraphOf g root) (sym fits.1) (is_tree_of g root c.in_ok-canon.canon is keeps ground),
       omega (arith, fits.0.few, ap length fits.1),
       omega (arith, small, ap length fits.1),
     )
