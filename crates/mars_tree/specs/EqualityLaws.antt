@@ -1,23 +1,18 @@
 -- That the tests of equality decide it, and the laws of the comparison and the hash, which the traits ask for.
-use Rattle.std.specs.Prelude.{◌≡◌, ℕ, List, Bool, true, false, ◌&&◌, Option, Some, None, nat_eq, refl}
-use Rattle.std.proofs.Common.{sym, ap}
+use Rattle.std.specs.Prelude.{◌≡◌, ℕ, List, true, Option, Some, None, nat_eq, refl}
+use Rattle.std.proofs.Common.{ap}
 use Rattle.std.specs.Bool.{Decides}
 use Rattle.std.specs.Cmp.{unsigned_Decides, signed_Decides, IsEquivalence, IsPartialEquivalence, partial_equiv_from_equiv}
 use Rattle.std.specs.Option.{option_eq}
 use Rattle.std.specs.Cmp.Lexicographic.{pointwise, pointwise_decides, bytes_decides}
+pub use Rattle.mars_base.proofs.Deciding.{equivalence_from_decides}
+use Rattle.mars_base.proofs.Deciding.{both, joined}
 use Rattle.mars_tree.specs.declared.label.NameId.{NameId}
 use Rattle.mars_tree.specs.declared.label.Label.{Label}
 use Rattle.mars_tree.specs.declared.label.Label.TheVariants.{Name, Int, Dot, Tup}
 use Rattle.mars_tree.specs.Graph.{Node}
 use Rattle.mars_tree.specs.NamesEquality.{same_names, names_writes}
 use Rattle.mars_tree.specs.Equality.{same_label, same_node, same_nodes, node_writes}
-
-both : (a b : Bool) → (a && b) ≡ true → (a ≡ true) × (b ≡ true)
-both true b e = (refl, e)
-both false b e = cc
-
-joined : (a b : Bool) → a ≡ true → b ≡ true → (a && b) ≡ true
-joined a b e f = rw (e, f) refl
 
 one_name : (n m : NameId) (k j : ℕ) → n.0 ≡ m.0 → k ≡ j → Name n k ≡ Name m j
 one_name n m k j e f i = Name (record { 0 = e i }) (f i)
@@ -64,19 +59,6 @@ node_decides v w = (
 
 pub nodes_decide : (g h : List Node) → Decides (same_nodes g h) (g ≡ h)
 nodes_decide = pointwise_decides node_decides
-
-same_answers : (a b : Bool) → (a ≡ true → b ≡ true) → (b ≡ true → a ≡ true) → a ≡ b
-same_answers true b f g = sym (f refl)
-same_answers false true f g = g refl
-same_answers false false f g = refl
-
--- a test that decides equality is an equivalence
-pub equivalence_from_decides : {K : Type 0} (E : K → K → Bool) → ((x y : K) → Decides (E x y) (x ≡ y)) → IsEquivalence E
-equivalence_from_decides E d = record {
-  refl = λ x. (d x x).1 refl;
-  symm = λ x y. same_answers (E x y) (E y x) (λ e. (d y x).1 (sym ((d x y).0 e))) (λ e. (d x y).1 (sym ((d y x).0 e)));
-  congr = λ x y z e. ap (λ w. E w z) ((d x y).0 e);
-}
 
 pub nodes_equivalence : IsEquivalence same_nodes
 nodes_equivalence = equivalence_from_decides same_nodes nodes_decide

@@ -1,4 +1,5 @@
-//! Rational trees as finite graphs.
+//! Rational trees as finite graphs: labels and names, graphs that grow and are cut, when two nodes are the same tree,
+//! and the laws of canonical graphs.
 #![tactic(auto)]
 
 mod graph;

@@ -1,4 +1,4 @@
-use Rattle.std.proofs.Common.{◌≡◌, ◌<◌, ◌≤◌, ◌+◌, ◌++◌, ◌∷◌, [], length, map, arith, ap, ◌∙◌}
+use Rattle.std.proofs.Common.{◌≡◌, ◌<◌, ◌≤◌, ◌+◌, ◌++◌, ◌∷◌, [], length, map, arith, ap, subst, ◌∙◌}
 use Rattle.std.proofs.lemmas.List.{length-map}
 use Rattle.std.proofs.lemmas.List.Elements.{All-map, All-weaker}
 use Rattle.mars_tree.specs.Stored.{nodes_of}
@@ -11,7 +11,9 @@ invariant_of-self-2 g c =
     let size = seen-length c.self.inside.labels.items c.self.inside.kids.items c.args.self.now c.self.view_is in
     let start : c.len.result ≡ length c.self.inside.kids.items = omega (arith, c.len.ensures, c.reserve-3.new.self.ok.0, ap length c.in_ok-reserve-3.ensures.items) in
     let labels : c.push_reserved.new.self.items ≡ c.self.inside.labels.items ++ c.args.label ∷ [] = put_last c.self.inside.labels.items c.reserve.new.self.items c.push_reserved.new.self.items (c.args.label ∷ []) c.in_ok-reserve.ensures.items c.push_reserved.ensures.items in
-    let starts : c.push_reserved-2.new.self.items ≡ c.self.inside.starts.items ++ length c.self.inside.kids.items ∷ [] = put_last c.self.inside.starts.items c.reserve-2.new.self.items c.push_reserved-2.new.self.items (length c.self.inside.kids.items ∷ []) c.in_ok-reserve-2.ensures.items (c.push_reserved-2.ensures.items ∙ ap (λ n. c.reserve-2.new.self.items ++ n ∷ []) start) in
+    let starts : c.push_reserved-2.new.self.items ≡ c.self.inside.starts.items ++ length c.self.inside.kids.items ∷ [] =
+    subst (λ n. c.push_reserved-2.new.self.items ≡ c.self.inside.starts.items ++ n ∷ []) start
+    (put_last c.self.inside.starts.items c.reserve-2.new.self.items c.push_reserved-2.new.self.items (c.len.result ∷ []) c.in_ok-reserve-2.ensures.items c.push_reserved-2.ensures.items) in
     let kids : c.push_kids.new.into.items ≡ c.self.inside.kids.items ++ map number_of c.args.kids.now = put_last c.self.inside.kids.items c.reserve-3.new.self.items c.push_kids.new.into.items (map number_of c.args.kids.now) c.in_ok-reserve-3.ensures.items c.push_kids.ensures in
     let below = All-map (λ k. k < length c.self.inside.labels.items + 1) number_of c.args.kids.now
     (All-weaker (λ kid. number_of kid ≤ length c.args.self.now) (λ kid. number_of kid < length c.self.inside.labels.items + 1) (λ kid h. omega (arith, size, h)) c.args.kids.now c.requires.in_range) in
