@@ -1,10 +1,10 @@
-//! A count of faults that never falls, and what it means that it rose.
+//! A count of faults, which never falls.
 ghost use Rattle.std.specs.Prelude.{◌≡◌, ◌≤◌};
-ghost use Rattle.mars_base.specs.Faults.{Rose};
+ghost use Rattle.mars_base.specs.Faults.{risen};
 
 use std::marker::Model;
 
-/// How many faults there were, from 0 on; it stands still at 2^64 - 1.
+/// How many faults there were, from 0 on. At 2^64 - 1 it stays as it is.
 #[derive(Debug, Drop)]
 pub struct Faults {
     count: u64,
@@ -26,9 +26,9 @@ impl Faults {
         Faults { count: 0 }
     }
 
-    /// Counts one fault more.
+    /// Counts one more fault.
     pub fn rise(&mut self)
-        ensures rose { Rose self.old self.new }
+        ensures one_more { self.new ≡ risen self.old }
         ensures later { self.old ≤ self.new }
     {
         self.count = self.count.saturating_add(1);

@@ -1,4 +1,4 @@
-//! What all other crates stand on: the one answer for want of memory, and the count of faults.
+//! What all other crates use: the error for out of memory, and the count of faults.
 #![tactic(auto)]
 
 mod faults;

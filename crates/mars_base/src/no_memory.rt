@@ -1,7 +1,7 @@
-//! Want of memory, made from std's errors of allocation.
+//! The error for out of memory, made from std's errors of allocation.
 use std::alloc::{AllocError, AllocFailed};
 
-/// There was no memory: the one answer for it in the whole workspace.
+/// Out of memory: an allocation failed. All crates answer this one error.
 #[derive(Clone, Copy, Debug, PartialEq, Eq)]
 pub struct NoMemory;
 

@@ -1,6 +1,6 @@
 //! The adapters over std's readers and writers.
 ghost use Rattle.std.specs.Prelude.{◌≡◌, ◌≤◌};
-ghost use Rattle.mars_base.specs.Faults.{Rose};
+ghost use Rattle.mars_base.specs.Faults.{risen};
 
 use crate::sink::{Put, Sink};
 use crate::source::{Source, Taken};
@@ -15,9 +15,10 @@ pub struct FromReader<R> {
 }
 
 impl<R: Read> FromReader<R> {
-    /// The reader with no fault so far.
+    /// The reader as it is, with no fault so far.
     pub fn new(reader: R) -> FromReader<R>
-        ensures { result.faults ≡ 0 }
+        ensures left { ⟦<FromReader<R> as Source>⟧.left result ≡ R.remaining reader }
+        ensures faults { result.faults ≡ 0 }
     {
         FromReader {
             inner: reader,
@@ -51,9 +52,10 @@ pub struct ToWriter<W> {
 }
 
 impl<W: Write> ToWriter<W> {
-    /// The writer with no fault so far.
+    /// The writer as it is, with no fault so far.
     pub fn new(writer: W) -> ToWriter<W>
-        ensures { result.faults ≡ 0 }
+        ensures got { ⟦<ToWriter<W> as Sink>⟧.got result ≡ W.contents writer }
+        ensures faults { result.faults ≡ 0 }
     {
         ToWriter {
             inner: writer,
@@ -63,7 +65,8 @@ impl<W: Write> ToWriter<W> {
 
     /// Counts a fault.
     fn fault(&mut self)
-        ensures count { Rose self.old.faults self.new.faults × (self.old.faults ≤ self.new.faults) }
+        ensures one_more { self.new.faults ≡ risen self.old.faults }
+        ensures later { self.old.faults ≤ self.new.faults }
         ensures inner { self.new.inner ≡ self.old.inner }
     {
         self.faults.rise();

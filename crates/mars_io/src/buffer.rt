@@ -9,7 +9,7 @@ use mars_base::{Faults, NoMemory};
 use std::alloc::Global;
 use std::marker::Model;
 
-/// Keeps what comes in room that is reserved. It fails at the calls that are listed and at a piece that doesn't
+/// Keeps the bytes that come, in room that is reserved from the start. It fails at the calls that are listed and at a piece that doesn't
 /// fit in the room, and keeps nothing of a piece at which it fails.
 #[derive(Drop)]
 pub struct Buffer {

@@ -13,7 +13,4 @@ pub use buffer::Buffer;
 pub use bytes::{Bytes, NeverFails};
 pub use sink::{Put, Sink};
 pub use source::{Source, Taken};
-pub use whole::{Reading, read_whole};
-
-#[cfg(test)]
-mod tests;
+pub use whole::{SourceError, read_whole};

@@ -8,13 +8,13 @@ ghost use Rattle.mars_io.specs.Sink.{Takes};
 pub enum Put {
     /// The whole piece was appended.
     All,
-    /// There was a fault; some beginning of the piece was appended.
+    /// There was a fault; a beginning of the piece was appended.
     Failed,
 }
 
 /// A sink for bytes, which are appended in order.
 pub trait Sink {
-    /// The bytes that came, where they are told.
+    /// The bytes that came, where the sink tells them.
     ghost got: { Self → Option (List ℕ) };
 
     /// How many faults there were.

@@ -16,13 +16,13 @@ pub enum Taken {
 
 /// A source of bytes, which are read once and in order.
 pub trait Source {
-    /// The bytes that are left, where they are told.
+    /// The bytes that are left, where the source tells them.
     ghost left: { Self → Option (List ℕ) };
 
     /// How many faults there were.
     ghost faults: { Self → ℕ };
 
-    /// Puts the next bytes in front of `into`, at least one and as many as the source likes.
+    /// Puts the next bytes at the start of `into`, at least one and as many as the source likes.
     fn read(&mut self, into: &mut [u8]) -> Taken
         requires { 0 < length into.old }
         ensures bound { GotAtMost result (length into.new) }

@@ -1,24 +1,41 @@
 //! Reading a source to its end.
-ghost use Rattle.std.specs.Prelude.{◌≡◌, ◌<◌, ◌≤◌, ◌+◌, ◌^◌, ℕ, List, length, vec_len, IfOk};
-ghost use Rattle.std.specs.Io.KnownBytes.{Consumes, IsAtEnd};
+ghost use Rattle.std.specs.Prelude.{◌≡◌, ◌<◌, ◌≤◌, ◌+◌, ◌^◌, vec_len, IfOk};
 ghost use Rattle.mars_base.specs.Faults.{Rose};
-ghost use Rattle.mars_io.specs.Whole.{IfWhole, IfLong, IsTurn};
+ghost use Rattle.mars_io.specs.Whole.{TakesAtMost, HasRead};
 
 use crate::source::{Source, Taken};
 use mars_base::NoMemory;
-use std::alloc::Global;
+use std::alloc::{AllocError, Global};
 
-/// How a reading ended.
-#[derive(Drop)]
-pub enum Reading {
-    /// All that the source had.
-    Whole(Vec<u8>),
-    /// One byte more than the limit.
-    Long(Vec<u8>),
-    /// The source failed.
+/// Why a source wasn't read.
+#[derive(Clone, Copy, Debug, PartialEq, Eq)]
+pub enum SourceError {
+    /// There was a fault.
     Failed,
-    /// There was no memory for the bytes.
+    /// Out of memory.
     NoMemory,
+}
+
+impl From<NoMemory> for SourceError {
+    ghost use Rattle.std.specs.Prelude.{◌≡◌};
+    ghost use Rattle.mars_io.specs.declared.whole.SourceError.TheVariants as why;
+
+    ghost from_gives = { λ _ error. error ≡ why.NoMemory };
+
+    fn from(_error: NoMemory) -> SourceError {
+        SourceError::NoMemory
+    }
+}
+
+impl From<AllocError> for SourceError {
+    ghost use Rattle.std.specs.Prelude.{◌≡◌};
+    ghost use Rattle.mars_io.specs.declared.whole.SourceError.TheVariants as why;
+
+    ghost from_gives = { λ _ error. error ≡ why.NoMemory };
+
+    fn from(_error: AllocError) -> SourceError {
+        SourceError::NoMemory
+    }
 }
 
 /// How many bytes are asked for at a time.
@@ -32,57 +49,29 @@ fn room_for(alloc: Global, count: usize) -> Result<Vec<u8>, NoMemory>
     Ok(room)
 }
 
-/// What a turn of the reading did.
-#[derive(Clone, Copy)]
-enum Turn {
-    More,
-    End,
-    Failed,
-    NoMemory,
-}
-
-/// One read, whose bytes go behind those that were read before.
-fn take_turn<S: Source>(source: &mut S, chunk: &mut [u8], bytes: &mut Vec<u8>) -> Turn
-    requires { 0 < length chunk.old }
-    ensures turn { IsTurn (S.left source.old) (S.left source.new) bytes.old.items bytes.new.items (length chunk.old) result }
+/// Reads all bytes of a source, but no more than `limit` and one byte: a result that is longer than `limit` says that
+/// there were too many. Each turn of the loop takes at least one byte.
+pub fn read_whole<S: Source>(
+    alloc: Global,
+    source: &mut S,
+    limit: usize,
+) -> Result<Vec<u8>, SourceError>
+    requires { limit < 2 ^ 32 }
+    ensures read { IfOk result (λ bytes. HasRead limit (S.left source.old) (S.left source.new) bytes.items) }
+    ensures taken { TakesAtMost (limit + 1) (S.left source.old) (S.left source.new) }
     ensures later { S.faults source.old ≤ S.faults source.new }
-    ensures cause { result ≡ Turn.Failed → Rose (S.faults source.old) (S.faults source.new) }
-{
-    match source.read(chunk) {
-        Taken::Got(count) => match bytes.extend_from_slice(&chunk[..count]) {
-            Ok(()) => Turn::More,
-            Err(_) => Turn::NoMemory,
-        },
-        Taken::End => Turn::End,
-        Taken::Failed => Turn::Failed,
-    }
-}
-
-/// Reads to the end, or to one byte past the limit `most`, which is counted in bytes. Each turn of the loop takes at
-/// least one byte, and no more than the limit and one byte is taken.
-pub fn read_whole<S: Source>(alloc: Global, source: &mut S, most: usize) -> Reading
-    requires { most < 2 ^ 32 }
-    ensures whole { IfWhole result (λ bytes. Consumes (S.left source.old) (S.left source.new) bytes
-        × IsAtEnd (S.left source.new) × (length bytes ≤ most)) }
-    ensures long { IfLong result (λ bytes. Consumes (S.left source.old) (S.left source.new) bytes
-        × (length bytes ≡ most + 1)) }
-    ensures taken { (bytes : List ℕ) × Consumes (S.left source.old) (S.left source.new) bytes × (length bytes ≤ most + 1) }
-    ensures later { S.faults source.old ≤ S.faults source.new }
-    ensures cause { result ≡ Reading.Failed → Rose (S.faults source.old) (S.faults source.new) }
+    ensures cause { result ≡ Err SourceError.Failed → Rose (S.faults source.old) (S.faults source.new) }
 {
     let mut bytes = Vec::new(alloc);
-    let Ok(mut chunk) = room_for(alloc, CHUNK) else {
-        return Reading::NoMemory;
-    };
-    'turns: while bytes.len() <= most {
-        let want = CHUNK.min(most + 1 - bytes.len());
+    let mut chunk = room_for(alloc, CHUNK)?;
+    'turns: while bytes.len() <= limit {
+        let want = CHUNK.min(limit + 1 - bytes.len());
         let room = &mut chunk[..want];
-        match take_turn(source, room, &mut bytes) {
-            Turn::More => {}
-            Turn::End => return Reading::Whole(bytes),
-            Turn::Failed => return Reading::Failed,
-            Turn::NoMemory => return Reading::NoMemory,
+        match source.read(room) {
+            Taken::Got(count) => bytes.extend_from_slice(&room[..count])?,
+            Taken::End => return Ok(bytes),
+            Taken::Failed => return Err(SourceError::Failed),
         }
     }
-    Reading::Long(bytes)
+    Ok(bytes)
 }

@@ -1,6 +1,10 @@
+-- Promised: what the contract of the top call, and those of the calls below it, cite.
 pub mod Ready
 pub mod Run
-pub mod RunInside
+pub mod Status
 pub mod Text
 pub mod Top
 pub mod Words
+
+-- Inside: what holds while commands run, promised to nobody.
+pub mod RunInside

@@ -16,7 +16,7 @@ use std::process::ExitCode;
 use std::{env, io};
 use top::marseille_alone;
 
-/// The words behind the program's name; a word that isn't text stands for words that aren't taken.
+/// The words after the program's name. Where one of them isn't UTF-8, they are one empty word, which isn't accepted.
 fn words_of(rt: &(impl std::rt::Env + Alloc<A = Global>)) -> Result<Vec<String>, NoMemory> {
     let mut words = Vec::new(rt.alloc());
     match env::args(rt) {
@@ -33,13 +33,10 @@ fn words_of(rt: &(impl std::rt::Env + Alloc<A = Global>)) -> Result<Vec<String>,
 
 fn main(rt: HostRuntime) -> ExitCode {
     let Ok(words) = words_of(&rt) else {
-        return ExitCode::from(Status::Memory as u8);
+        return ExitCode::from(Status::Memory.number());
     };
     let mut source = FromReader::new(rt.reader());
     let mut sink = ToWriter::new(io::writer(&rt));
     let Outcome { status } = marseille_alone(rt.alloc(), &words, &mut source, &mut sink);
-    ExitCode::from(status as u8)
+    ExitCode::from(status.number())
 }
-
-#[cfg(test)]
-mod tests;

@@ -1,20 +1,31 @@
 //! How a call of the program ended.
+ghost use Rattle.std.specs.Prelude.{◌≡◌};
+ghost use Rattle.marseille.specs.Status.{number_of_status};
 
-/// How a call of the program ended. The exit status is the number in this order, from 0 on.
+/// How a call of the program ended.
 #[derive(Clone, Copy, Debug, PartialEq, Eq)]
 pub enum Status {
-    /// The whole text of the run was written.
+    /// The whole output of the run was written.
     Done,
     /// The input isn't of the form; a line says so.
     Refused,
-    /// The words aren't taken; a line says so.
+    /// The words aren't accepted; a line says so.
     Words,
-    /// There was no memory; nothing was written.
+    /// Out of memory; nothing was written.
     Memory,
     /// The source failed; nothing was written.
     Read,
     /// The sink failed; it got a beginning of what was due.
     Write,
+}
+
+impl Status {
+    /// The exit status: the place in the order of the variants, from 0 on.
+    pub fn number(self) -> u8
+        ensures { result ≡ number_of_status self }
+    {
+        self as u8
+    }
 }
 
 /// What a call of the program gives back.

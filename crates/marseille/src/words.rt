@@ -1,5 +1,5 @@
 //! The words that the program is given.
-ghost use Rattle.std.specs.Prelude.{◌≡◌, ◌↔◌, IsTrue, codes, map, string_bytes};
+ghost use Rattle.std.specs.Prelude.{◌≡◌, ◌↔◌, IsTrue, codes};
 ghost use Rattle.marseille.specs.Words.{AreWords};
 
 /// Whether a word is `run`.
@@ -9,9 +9,9 @@ fn is_run(word: &str) -> bool
     word == "run"
 }
 
-/// Whether the words are taken.
+/// Whether the words are accepted: no word, or `run` alone.
 pub(crate) fn are_words(words: &[String]) -> bool
-    ensures { IsTrue result ↔ AreWords (map (λ word. string_bytes word) words.now) }
+    ensures { IsTrue result ↔ AreWords words.now }
 {
     match words {
         [] => true,

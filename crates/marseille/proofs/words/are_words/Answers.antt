@@ -1,6 +1,5 @@
 use Rattle.std.proofs.Common.{◌≡◌, ◌<◌, ◌≤◌, ℕ, List, [], ◌∷◌, length, get_or, ap, sym, arith, codes, string_bytes, inl, inr}
-use Rattle.std.specs.Prelude.{◌↔◌, IsTrue, Bool}
-use Rattle.marseille.specs.Words.{AreWords}
+use Rattle.std.specs.Prelude.{◌↔◌, ◌⊎◌, IsTrue, Bool}
 use Rattle.marseille.proofs.words.are_words.Goals as goal
 
 -- a list of one member
@@ -9,7 +8,7 @@ one [] w least below e = absurd (omega arith)
 one (x ∷ []) w least below e = ap (λ y. y ∷ []) (sym e)
 one (x ∷ y ∷ ys) w least below e = absurd (omega arith)
 
-alone : (b : Bool) (w : List ℕ) → (IsTrue b ↔ (w ≡ codes "run")) → IsTrue b ↔ AreWords (w ∷ [])
+alone : (b : Bool) (w : List ℕ) → (IsTrue b ↔ (w ≡ codes "run")) → IsTrue b ↔ ((w ∷ [] ≡ []) ⊎ (w ∷ [] ≡ codes "run" ∷ []))
 alone b w iff = (
   (λ yes. inr (ap (λ y. y ∷ []) (iff.0 yes))),
   (λ are. elim are [ inl none ↦ absurd cc | inr same ↦ iff.1 cc ]),
