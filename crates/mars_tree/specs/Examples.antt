@@ -1,4 +1,4 @@
--- Small graphs on which the definitions compute.
+-- Small graphs, on which the definitions compute and a numbering is refused.
 use Rattle.std.specs.Prelude.{◌≡◌, ◌≢◌, ℕ, List, [], ◌∷◌, Some, None}
 use Rattle.mars_tree.specs.declared.label.Label.{Label}
 use Rattle.mars_tree.specs.declared.label.Label.TheVariants.{Name}

@@ -48,7 +48,7 @@ impl Graph {
     }
 
     /// The graph with these labels, where the kids of each node come after those of the node before. Linear in the
-    /// labels. The error is that memory ran out.
+    /// labels. The only error is out of memory.
     pub fn from_lists(
         alloc: Global,
         labels: Vec<Option<Label>>,
@@ -67,8 +67,8 @@ impl Graph {
         })
     }
 
-    /// Adds a node whose kids are all itself, and gives its number, which is how many nodes there were. The error is that
-    /// memory ran out; the graph is then as before, as with each call that adds nodes.
+    /// Adds a node whose kids are all itself, and gives its number, which is how many nodes there were. Out of
+    /// memory leaves the graph as it was, as with each call that adds nodes.
     pub fn add(&mut self, label: Label) -> Result<usize, NoMemory>
         ensures node { IfOk result (λ n. n ≡ length self.old) }
         ensures ok { OnOk result (self.new ≡ self.old ++ labelled label (replicate (arity_of label) (length self.old)) ∷ []) }

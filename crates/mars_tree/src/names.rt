@@ -52,7 +52,7 @@ fn built_in_place(text: &[u8]) -> Option<usize>
 }
 
 impl Names {
-    /// The thirteen built-in names, at the places 0 to 12. Takes no memory.
+    /// The built-in names alone. Takes no memory.
     pub fn new(alloc: Global) -> Names
         ensures { result ≡ built_in_names }
     {

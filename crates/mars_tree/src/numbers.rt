@@ -42,7 +42,7 @@ impl NewNumbers for Vec<usize> {
     }
 }
 
-/// Puts the numbers that nodes get last in a list, which stays as it was where memory fails.
+/// Puts the numbers that nodes get last in a list. Out of memory leaves the list as it was.
 pub fn push_renumbered<N: NewNumbers>(
     nodes: &[usize],
     numbers: &N,
@@ -59,7 +59,7 @@ pub fn push_renumbered<N: NewNumbers>(
     Ok(())
 }
 
-/// Puts the numbers of nodes last in a list that has room for them.
+/// Puts the numbers of nodes last in a list, which has room for them.
 pub(crate) fn push_kids<K: NodeNumber>(kids: &[K], into: &mut Vec<usize>)
     requires room { into.old.len + length kids.now ≤ into.old.cap }
     ensures { into.new.items ≡ into.old.items ++ map K.number_of kids.now }

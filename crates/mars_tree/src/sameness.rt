@@ -27,7 +27,7 @@ fn meet_kids(a: &Graph, i: usize, b: &Graph, j: usize, pairs: &mut Pairs) -> Res
 }
 
 /// Whether two nodes are the same tree: the labels agree along every path. Each pair of nodes is met once, so time and
-/// memory are in proportion to the pairs that are met. The only error is that memory ran out.
+/// memory are in proportion to the pairs that are met. The only error is out of memory.
 pub fn same(alloc: Global, a: &Graph, n: usize, b: &Graph, m: usize) -> Result<bool, NoMemory>
     requires n_in { n < length a.now }
     requires m_in { m < length b.now }

@@ -36,7 +36,7 @@ impl Graph {
     }
 
     /// Adds a node for each label, with the kids of each after those of the node before. Linear in the labels and the
-    /// kids. Where memory fails, the graph stays as it was.
+    /// kids. Out of memory leaves the graph as it was.
     pub fn append(&mut self, labels: &[Option<Label>], kids: &[usize]) -> Result<(), NoMemory>
         requires size { length kids.now ≡ kid_count labels.now }
         requires in_range { All (λ kid. kid < length self.old + length labels.now) kids.now }
@@ -53,7 +53,7 @@ impl Graph {
     }
 
     /// Adds the nodes of a list as they are in another graph, with their kids under other numbers. Linear in the nodes
-    /// and their kids. Where memory fails, the graph stays as it was.
+    /// and their kids. Out of memory leaves the graph as it was.
     pub fn append_renumbered<N: NewNumbers>(
         &mut self,
         from: &Graph,
