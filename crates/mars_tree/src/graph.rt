@@ -2,7 +2,7 @@
 ghost use Rattle.std.specs.Prelude.{◌≡◌, ◌<◌, ◌≤◌, ◌+◌, ◌++◌, ◌∷◌, [], length, replicate, slice_get, Some, IfOk, OnOk, OnErr, All, take, drop};
 ghost use Rattle.mars_tree.specs.Label.{arity_of};
 ghost use Rattle.mars_tree.specs.Graph.{IsGraph, label_of, kids_of, with_kid, labelled, free_leaf};
-ghost use Rattle.mars_tree.specs.Stored.{kid_count, starts_from, nodes_of};
+ghost use Rattle.mars_tree.specs.Stored.{kid_count, nodes_of};
 
 mod equality;
 mod flat;

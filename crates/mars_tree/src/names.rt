@@ -1,7 +1,7 @@
 //! The spellings of names: a list without doubles, searched through an index.
 #![tactic(auto, unfolding(crate::specs::Names::built_in_names))]
 
-ghost use Rattle.std.specs.Prelude.{◌≡◌, ◌-◌, ◌^◌, ◌<◌, ◌≤◌, length, slice_get, Some, IfOk, OnOk, OnErr, ◌++◌, ◌∷◌, [], None, map};
+ghost use Rattle.std.specs.Prelude.{◌≡◌, ◌-◌, ◌^◌, ◌<◌, length, slice_get, Some, IfOk, OnOk, OnErr, ◌++◌, ◌∷◌, [], None, map};
 ghost use Rattle.std.specs.Option.{option_map};
 ghost use Rattle.mars_tree.specs.Names.{built_in_names, place_of, name_number, with_text, AreDistinct};
 

@@ -1,6 +1,5 @@
 //! The flat lists of a graph, as they grow by many nodes.
-ghost use Rattle.std.specs.Prelude.{◌≡◌, ◌<◌, ◌≤◌, ◌+◌, ◌++◌, ◌^◌, length, map, take, OnOk, OnErr, All};
-ghost use Rattle.std.specs.List.{flat_map};
+ghost use Rattle.std.specs.Prelude.{◌≡◌, ◌<◌, ◌+◌, ◌++◌, ◌^◌, length, map, take, OnOk, OnErr, All};
 ghost use Rattle.mars_tree.specs.Graph.{label_of};
 ghost use Rattle.mars_tree.specs.Renumbered.{HaveKids, renumbered_kids};
 ghost use Rattle.mars_tree.specs.Stored.{kid_count, starts_from};

@@ -1,9 +1,8 @@
 //! Graphs that grow at their ends and are cut there.
-ghost use Rattle.std.specs.Prelude.{◌≡◌, ◌<◌, ◌≤◌, ◌+◌, ◌++◌, ◌∷◌, ◌^◌, [], length, map, take, IfOk, OnOk, OnErr, All};
-ghost use Rattle.std.specs.List.{flat_map};
-ghost use Rattle.mars_tree.specs.Graph.{IsGraph, arity_at, kids_of, label_of};
+ghost use Rattle.std.specs.Prelude.{◌≡◌, ◌<◌, ◌≤◌, ◌+◌, ◌++◌, ◌∷◌, [], length, map, take, IfOk, OnOk, OnErr, All};
+ghost use Rattle.mars_tree.specs.Graph.{IsGraph, arity_at};
 ghost use Rattle.mars_tree.specs.Renumbered.{renumbered, HaveKids, KidsFit};
-ghost use Rattle.mars_tree.specs.Stored.{kid_count, starts_from, nodes_of};
+ghost use Rattle.mars_tree.specs.Stored.{kid_count, nodes_of};
 
 use crate::graph::Graph;
 use crate::graph::flat::{push_all_kids, push_labels, push_starts};
