@@ -1,5 +1,5 @@
 -- One number a tree.
-use Rattle.std.proofs.Common.{◌≡◌, ℕ, zero, suc, List, [], ◌∷◌, Option, Some, None, slice_get, sym, subst, ap, ◌∙◌}
+use Rattle.std.proofs.Common.{List}
 use Rattle.std.specs.List.{AllZip}
 use Rattle.mars_base.proofs.ListFacts.{AllZip-get}
 use Rattle.mars_table.specs.Object.{TableObject}

@@ -1,11 +1,11 @@
 -- The tree of a node by its canonical graph: whether it has a free leaf, and how many distinct subtrees.
-use Rattle.std.proofs.Common.{◌≡◌, ◌≢◌, ℕ, zero, suc, ◌<◌, ◌≤◌, Bool, true, false, nat_lt, List, [], ◌∷◌, ◌++◌, length, get_or, take, Option, Some, None, option_and_then, slice_get, refl, sym, subst, ap, ◌∙◌, arith, inl, inr, Contains}
+use Rattle.std.proofs.Common.{◌≡◌, ◌≢◌, ℕ, suc, ◌<◌, Bool, true, false, nat_lt, List, [], ◌∷◌, length, Option, Some, None, option_and_then, refl, sym, subst, ap, ◌∙◌, arith}
 use Rattle.std.specs.Option.{option_map}
 use Rattle.std.proofs.lemmas.Bool.Decides.{nat_tests}
 use Rattle.std.proofs.lemmas.Option.{same_Some}
 use Rattle.std.proofs.lemmas.List.Elements.{All-cons, All-nil}
 use Rattle.mars_tree.specs.declared.label.Label.{Label}
-use Rattle.mars_tree.specs.Graph.{Node, IsGraph, IsGround, label_of, free_leaf, shown_at, end_of, Same}
+use Rattle.mars_tree.specs.Graph.{Node, IsGraph, IsGround, label_of, shown_at, end_of, Same}
 use Rattle.mars_tree.specs.Canonical.{IsCanonical, KeepsWalks}
 use Rattle.mars_tree.proofs.CallerLemmas.{stands_from_label, label_in, end_in, roots_in}
 use Rattle.mars_reach.specs.Reach.{ReachesFree, ReachesNoFree}

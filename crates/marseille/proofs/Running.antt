@@ -1,9 +1,6 @@
 -- The run of one command more.
-use Rattle.std.proofs.Common.{All, Bool, true, false, zero, suc, take, get_or, ◌<◌, ◌≡◌, ℕ, ◌+◌, ◌≤◌, List, [], ◌∷◌, ◌++◌, length, refl, sym, subst, ap, ◌∙◌, arith, append_assoc, append-nil}
-use Rattle.std.specs.List.{AllZip, IsDistinct}
-use Rattle.std.proofs.lemmas.List.Elements.{All-nil}
-use Rattle.mars_table.specs.Rows.{Row, HasRow}
-use Rattle.mars_tree.specs.Label.{arity_of}
+use Rattle.std.proofs.Common.{Bool, true, false, zero, suc, take, get_or, ◌<◌, ◌≡◌, ℕ, ◌+◌, ◌≤◌, List, [], ◌∷◌, ◌++◌, length, refl, sym, subst, ap, ◌∙◌, arith, append_assoc, append-nil}
+use Rattle.std.specs.List.{AllZip}
 use Rattle.mars_tree.specs.declared.label.NameId.{NameId}
 use Rattle.mars_read.specs.declared.first.FirstPut.{FirstPut}
 use Rattle.mars_read.specs.First.{nodes_in}

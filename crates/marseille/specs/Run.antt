@@ -14,14 +14,14 @@ use Rattle.marseille.specs.declared.run.PutAnswer.TheVariants.{NameTaken, NotGro
 use Rattle.marseille.specs.declared.run.TheConstants.{ROW_LIMIT}
 use Rattle.marseille.specs.Text.{text_of}
 
--- the tree of node `n` has `count` distinct subtrees, more than a table takes
+-- the tree of node `n` has `count` distinct subtrees, more than a `Tree` may have
 pub record IsTooLarge (g : List Node) (n count : ℕ) : Type 0 where
   pub tree : List Node
   pub is : IsTreeGraphOf g n tree
   pub size : length tree ≡ count
   pub large : most_nodes < count
 
--- the tree of node `n` has no more distinct subtrees than a table takes, and the table's answer for it is the number `h`
+-- the tree of node `n` has no more distinct subtrees than a `Tree` may have, and the table's answer for it is the number `h`
 pub record IsKeptAs (old : TableObject) (g : List Node) (n h : ℕ) (new : TableObject) : Type 0 where
   pub tree : List Node
   pub is : IsTreeGraphOf g n tree
