@@ -1,6 +1,4 @@
 //! Rows on sources.
-ghost use Rattle.std.specs.Prelude.{◌<◌, IfOk};
-
 use crate::row::{read_calls, read_number, split_at};
 use mars_io::{Bytes, FromReader, NeverFails, Source, SourceError, Taken, read_whole};
 use rows::{Stop, push_number};
