@@ -10,11 +10,11 @@ use Rattle.mars_tree.specs.Examples.{named, loop}
 abbrev pub two_items : List Node
 two_items = labelled Dot (1 ∷ 2 ∷ []) ∷ labelled (named 13 0) [] ∷ labelled Dot (3 ∷ 4 ∷ []) ∷ labelled (named 14 0) [] ∷ labelled (named 15 0) [] ∷ []
 
--- the same list numbered depth first, with the inner dot's kids in front of nothing else
+-- the same list numbered depth first, where the inner dot comes last
 abbrev pub two_items_depth_first : List Node
 two_items_depth_first = labelled Dot (1 ∷ 4 ∷ []) ∷ labelled (named 13 0) [] ∷ labelled (named 14 0) [] ∷ labelled (named 15 0) [] ∷ labelled Dot (2 ∷ 3 ∷ []) ∷ []
 
--- which numberings are in order, and what stands at the ends of paths
+-- which numberings are in order, and what paths end at
 pub record Examples : Type 0 where
   pub breadth_first : known_after 0 (mentions (0 ∷ []) two_items) ≡ Some 5
   pub depth_first : known_after 0 (mentions (0 ∷ []) two_items_depth_first) ≡ None

@@ -70,8 +70,3 @@ part_shows g roots order reach =
       small = image_small g (Contains order) (place_in order) h is;
       apart = λ apart. image_apart g (Contains order) (place_in order) h is (λ u v u_in v_in same. ap (place_in order) (apart u v (is.in_range u u_in) (is.in_range v v_in) same));
     }
-
-pub shows_part : (g : List Node) (roots : List ℕ) (h : List Node) (others : List ℕ) → IsPart g roots h others → ShowsPart g roots h others
-shows_part g roots h others is =
-    subst (λ (k : List Node). ShowsPart g roots k others) (sym is.nodes)
-    (subst (λ (ns : List ℕ). ShowsPart g roots (renumbered g (place_in is.order) is.order) ns) (sym is.placed) (part_shows g roots is.order is.reach))

@@ -32,7 +32,7 @@ pub record IsSplit (old new : Parted) : Type 0 where
 abbrev pub AreMembers : List ℕ → ℕ → List ℕ → Type 0
 AreMembers of class members = (u : ℕ) → Contains members u ↔ ((u < length of) × (class_of of u ≡ class))
 
--- no node stands twice
+-- no node is there twice
 abbrev pub AreEachOnce : List ℕ → Type 0
 AreEachOnce nodes = (i j u : ℕ) → slice_get nodes i ≡ Some u → slice_get nodes j ≡ Some u → i ≡ j
 
