@@ -5,6 +5,6 @@ use Rattle.mars_base.specs.declared.numbers.Form.{Form}
 use Rattle.mars_base.specs.declared.numbers.Form.TheVariants.{Narrow, Wide}
 
 -- what contracts see of a form
-abbrev pub listed : Form → NumberList
-listed (Narrow all) = record { items = all.items; most = 2 ^ 32 - 1 }
-listed (Wide all) = record { items = all.items; most = 2 ^ 64 - 1 }
+abbrev pub number_list : Form → NumberList
+number_list (Narrow all) = record { items = all.items; most = 2 ^ 32 - 1 }
+number_list (Wide all) = record { items = all.items; most = 2 ^ 64 - 1 }

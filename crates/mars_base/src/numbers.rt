@@ -23,9 +23,9 @@ impl Model for Numbers {
 
     ghost Value = { NumberList };
 
-    ghost use Rattle.mars_base.specs.NumbersInside.{listed};
+    ghost use Rattle.mars_base.specs.NumbersInside.{number_list};
 
-    ghost view = { λ n. listed n.form };
+    ghost view = { λ n. number_list n.form };
 }
 
 impl Numbers {

@@ -48,7 +48,7 @@ bool_cases : (b : Bool) → (b ≡ true) ⊎ (b ≡ false)
 bool_cases true = inl refl
 bool_cases false = inr refl
 
--- what was met stays in front
+-- what was met stays first
 pub met_after-front : (met xs : List ℕ) → (more : List ℕ) × (met_after met xs ≡ met ++ more)
 met_after-front met [] = ([], sym (append-nil met))
 met_after-front met (x ∷ xs) = elim (bool_cases (list_any (nat_eq x) met)) [

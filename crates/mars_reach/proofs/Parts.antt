@@ -17,7 +17,7 @@ pub node_at : (g : List Node) (number : ℕ → ℕ) (order : List ℕ) (k n : �
 node_at g number order k n e =
     get_or-map (renumbered_node g number) order k 0 free_leaf (slice_get_within order k n e) ∙ ap (renumbered_node g number) (get_or_from_slice_get order k n 0 e)
 
--- places among distinct numbers are those at which they stand
+-- distinct numbers have one place each
 pub place_is : (order : List ℕ) (k n : ℕ) → AreDistinct order → slice_get order k ≡ Some n → place_in order n ≡ k
 place_is order k n distinct e = distinct (place_in order n) k n (place_get order n (contains_at order k n e)) e
 

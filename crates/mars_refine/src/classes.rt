@@ -2,7 +2,8 @@
 //!
 //! A split costs time linear in the marks. Where memory runs out, the classes hold together and are dropped by the caller.
 ghost use Rattle.std.specs.Prelude.{◌≡◌, ◌↔◌, ◌⊎◌, ◌<◌, ◌≤◌, ◌+◌, ◌-◌, [], ℕ, true, false, length, slice_set, IsTrue, IfOk, OnOk, OnErr, All, Contains, replicate, slice_range};
-ghost use Rattle.mars_refine.specs.Classes.{Parted, AreEachOnce, AreMembers, IsAlone, IsMarking, IsSplit};
+ghost use Rattle.mars_base.specs.Lists.{AreDistinct};
+ghost use Rattle.mars_refine.specs.Classes.{Parted, AreMembers, IsAlone, IsMarking, IsSplit};
 ghost use Rattle.mars_refine.specs.ClassesInside.{IsPartedInside, at_place, AreTouched, parted_of, SplitsOne, span_of};
 ghost use Rattle.mars_refine.specs.Refine.{class_of};
 
@@ -82,7 +83,7 @@ impl Classes {
     pub fn members(&self, class: usize) -> NumberPart<'_>
         requires { class < self.now.count }
         ensures members { AreMembers self.now.of class result }
-        ensures once { AreEachOnce result }
+        ensures once { AreDistinct result }
         ensures some { 0 < length result }
     {
         let span = self.parts.spans[class];
