@@ -6,7 +6,7 @@ use Rattle.std.proofs.lemmas.List.Elements.{All-contains}
 use Rattle.mars_tree.specs.Graph.{Node, IsGraph, kids_of, free_leaf, Same}
 use Rattle.mars_reach.specs.Image.{IsImage}
 use Rattle.mars_reach.specs.Order.{place_in, renumbered_node, renumbered, AreDistinct, IsReach, IsReached}
-use Rattle.mars_reach.specs.Part.{IsClosed, IsPart, ShowsPart}
+use Rattle.mars_reach.specs.Part.{IsClosed, ShowsPart}
 use Rattle.mars_reach.proofs.Images.{image_apart, image_graph, image_keeps, image_reached, image_roots_in, image_small}
 use Rattle.mars_reach.proofs.Numbers.{All-from_gets, All-slice_get, contains_at}
 use Rattle.mars_reach.proofs.Ordering.{order_is_canonical}

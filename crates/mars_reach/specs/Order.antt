@@ -1,5 +1,5 @@
 -- Nodes in the order in which a walk over a queue meets them.
-use Rattle.std.specs.Prelude.{◌≡◌, ℕ, suc, ◌<◌, List, [], ◌∷◌, ◌++◌, length, map, take, slice_get, Some, nat_eq, if◌then◌else◌, All, Contains}
+use Rattle.std.specs.Prelude.{◌≡◌, ℕ, suc, ◌<◌, List, [], ◌∷◌, ◌++◌, length, take, Some, nat_eq, if◌then◌else◌, All}
 use Rattle.std.specs.List.{flat_map, list_any}
 use Rattle.mars_tree.specs.Graph.{Node, kids_of}
 use Rattle.mars_tree.specs.Canonical.{walk_end}
