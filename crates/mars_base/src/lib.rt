@@ -3,6 +3,8 @@
 
 mod faults;
 mod no_memory;
+mod numbers;
 
 pub use faults::Faults;
 pub use no_memory::NoMemory;
+pub use numbers::{NumberPart, Numbers};

@@ -1,7 +1,10 @@
+-- Promised: canonical graphs with their roots, and trees; both shown on small graphs.
 pub mod Canon
-pub mod CanonInside
-pub mod CanonLaws
-pub mod Examples
-pub mod Laws
 pub mod Tree
+pub mod Examples
+-- Laws: equal exactly where the trees are the same, and equal ones hash alike.
+pub mod Laws
+pub mod CanonLaws
+-- Inside: the code's own steps, promised to nobody.
+pub mod CanonInside
 pub mod TreeInside

@@ -1,4 +1,4 @@
--- What stands in the fields of `Tree`.
+-- What the fields of `Tree` hold.
 use Rattle.std.specs.Prelude.{◌≤◌, List, [], ◌∷◌, Option, Some, length, map}
 use Rattle.mars_tree.specs.declared.label.Label.{Label}
 use Rattle.mars_tree.specs.Graph.{Node}
@@ -11,9 +11,11 @@ use Rattle.mars_canon.specs.Tree.{most_nodes}
 abbrev pub labels_of : Inside → List (Option Label)
 labels_of t = map Some t.labels.items
 
+-- what contracts see of the fields
 abbrev pub tree_nodes : Inside → List Node
 tree_nodes t = nodes_of (labels_of t) t.kids.items
 
+-- what holds of the fields
 pub record HoldsTree (t : Inside) : Type 0 where
   pub laid : IsLaid (labels_of t) t.starts.items t.kids.items
   pub canonical : IsCanonical (tree_nodes t) (0 ∷ [])

@@ -11,7 +11,7 @@ use mars_tree::Graph;
 use std::alloc::Global;
 
 /// What roots reach in a graph with one node for each tree, numbered breadth first: the roots, then the kids of node 0,
-/// of node 1 and so on. Linear in the roots and in the kids of what is reached. The error is want of memory alone.
+/// of node 1 and so on. Linear in the roots and in the kids of what is reached. The error is out of memory alone.
 fn numbered(alloc: Global, graph: &Graph, roots: &[usize]) -> Result<Canon, NoMemory>
     requires roots_in { All (λ root. root < length graph.now) roots.now }
     requires apart { IsReduced graph.now }
@@ -24,7 +24,7 @@ fn numbered(alloc: Global, graph: &Graph, roots: &[usize]) -> Result<Canon, NoMe
 
 /// The canonical graph of some nodes' trees: one node for each tree that the nodes reach, in the one numbering that their
 /// order gives. Mauborgne's unique representation; equal for two graphs exactly where the trees are the same. It takes
-/// as long as `minimise`: for bounded arities n log n in the nodes that are reached. The error is want of memory alone.
+/// as long as `minimise`: for bounded arities n log n in the nodes that are reached. The error is out of memory alone.
 pub fn canon(alloc: Global, graph: &Graph, roots: &[usize]) -> Result<Canon, NoMemory>
     requires { All (λ root. root < length graph.now) roots.now }
     ensures keeps { IfOk result (λ c. KeepsWalks graph.now roots.now c.nodes c.roots) }

@@ -8,7 +8,7 @@ use mars_tree::{Graph, Label};
 use std::hash::{Hash, Hasher};
 use std::marker::Model;
 
-/// The smallest graph of some trees, in its one numbering, with the nodes that stand for these trees, its roots.
+/// The smallest graph of some trees, in its one numbering, with the nodes of these trees, its roots.
 /// No two nodes are the same tree; the roots come first, in order, and then the kids of node 0, of node 1 and so on.
 #[derive(Drop)]
 pub struct Canon {
@@ -58,7 +58,7 @@ impl Canon {
         &self.graph
     }
 
-    /// The nodes that stand for the trees, in order.
+    /// The nodes of the trees, in order.
     pub fn roots(&self) -> &[usize]
         ensures roots { result.now ≡ self.now.roots }
         ensures in_range { All (λ root. root < length self.now.nodes) result.now }
@@ -122,7 +122,7 @@ impl PartialEq for Canon {
 
     ghost laws = { rooted_partial_equivalence };
 
-    /// Whether two have the same nodes and the same roots, so whether they stand for the same trees. Linear in the nodes
+    /// Whether two have the same nodes and the same roots, so whether they have the same trees. Linear in the nodes
     /// and their kids.
     fn eq(&self, other: &Canon) -> bool
         ensures value { result ≡ same_rooted self.now other.now }

@@ -1,12 +1,12 @@
 //! Trees: ground canonical graphs with one root, in flat vectors.
-ghost use Rattle.std.specs.Prelude.{◌≡◌, ◌<◌, ◌≤◌, ◌^◌, ◌↔◌, ◌++◌, ◌∷◌, [], IsTrue, length, slice_get, Some, IfOk, OnOk, IfSome, All, map};
+ghost use Rattle.std.specs.Prelude.{◌≡◌, ◌<◌, ◌≤◌, ◌-◌, ◌^◌, min, ◌↔◌, ◌++◌, ◌∷◌, [], IsTrue, length, slice_get, Some, IfOk, OnOk, All, map};
 ghost use Rattle.std.specs.Option.{SomeIff};
 ghost use Rattle.mars_tree.specs.Graph.{label_of, kids_of};
 ghost use Rattle.mars_tree.specs.Equality.{all_kids};
 ghost use Rattle.mars_canon.specs.Tree.{IsTree, FitsTree};
 
 use crate::rooted::Canon;
-use mars_base::NoMemory;
+use mars_base::{NoMemory, Numbers};
 use mars_reach::Roots;
 use mars_tree::{Graph, Label};
 use std::alloc::Global;
@@ -18,12 +18,12 @@ use std::mem::size_of;
 pub const MOST_NODES: usize = 16_384;
 
 /// A rational tree: a canonical graph without free leaves, with the one root 0 and at most `MOST_NODES` nodes. It takes
-/// 16 bytes for each label, 4 for where the label's kids start, and 2 for each kid, so at most 52 a node where no label
-/// has over 16 kids.
+/// 16 bytes for each label, 4 for where the label's kids start (8 where all kids are 2^32 or more), and 2 for each kid, so
+/// at most 52 a node where no label has over 16 kids.
 #[derive(Drop)]
 pub struct Tree {
     labels: Vec<Label>,
-    starts: Vec<u32>,
+    starts: Numbers,
     kids: Vec<u16>,
 }
 
@@ -44,8 +44,7 @@ impl Model for Tree {
 
 impl Tree {
     /// The tree of a canonical graph's root, `None` exactly where the graph has a free leaf, more or fewer than one root,
-    /// or more than `MOST_NODES` nodes. Linear in the nodes and their kids. The error is want of memory; a graph with 2^32
-    /// kids or more is one of those that no memory holds.
+    /// or more than `MOST_NODES` nodes. Linear in the nodes and their kids. The error is out of memory alone.
     pub fn of(alloc: Global, canon: &Canon) -> Result<Option<Tree>, NoMemory>
         ensures { IfOk result (λ answer. SomeIff answer (FitsTree canon.now) canon.now.nodes) }
     {
@@ -55,18 +54,18 @@ impl Tree {
         Ok(Some(laid_out(alloc, canon)?))
     }
 
-    /// The same tree once more. The error is want of memory alone.
+    /// The same tree once more. The error is out of memory alone.
     pub fn copy(&self) -> Result<Tree, NoMemory>
         ensures { IfOk result (λ tree. tree ≡ self.now) }
     {
         Ok(Tree {
             labels: self.labels.clone()?,
-            starts: self.starts.clone()?,
+            starts: self.starts.copy()?,
             kids: self.kids.clone()?,
         })
     }
 
-    /// The canonical graph of the tree, with the one root 0. The error is want of memory alone.
+    /// The canonical graph of the tree, with the one root 0. The error is out of memory alone.
     pub fn canon(&self) -> Result<Canon, NoMemory>
         ensures { IfOk result (λ canon. canon ≡ record { nodes = self.now; roots = 0 ∷ [] }) }
     {
@@ -108,23 +107,19 @@ impl Tree {
         ensures kid { slice_get (kids_of self.now node) place ≡ Some result }
         ensures kid_in { result < length self.now }
     {
-        self.kids[self.starts[node] as usize + place] as usize
+        self.kids[self.starts.get(node) + place] as usize
     }
 }
 
-/// How many kids all nodes have together, `None` where it is 2^32 or more.
-fn count_kids(canon: &Canon) -> Option<usize>
-    ensures count { IfSome result (λ count. count ≡ length (all_kids canon.now.nodes)) }
-    ensures bound { IfSome result (λ count. count < 2 ^ 32) }
+/// How many kids all nodes have together, for which room is reserved. It stops at 2^64 - 1.
+fn count_kids(canon: &Canon) -> usize
+    ensures { result ≡ min (length (all_kids canon.now.nodes)) (2 ^ 64 - 1) }
 {
     let mut count: usize = 0;
     for node in 0..canon.len() {
-        count = count.checked_add(canon.arity(node))?;
+        count = count.saturating_add(canon.arity(node));
     }
-    if count > u32::MAX as usize {
-        return None;
-    }
-    Some(count)
+    count
 }
 
 /// Labels as those of nodes that are no free leaves.
@@ -146,7 +141,7 @@ fn widened(alloc: Global, numbers: &[u16]) -> Result<Vec<usize>, NoMemory>
     )
 }
 
-/// Puts kids behind others.
+/// Puts kids after others.
 fn push_kids(kids: &[usize], into: &mut Vec<u16>) -> Result<(), NoMemory>
     requires { All (λ kid. kid < 2 ^ 16) kids.now }
     ensures { OnOk result (into.new.items ≡ into.old.items ++ kids.now) }
@@ -162,15 +157,13 @@ fn laid_out(alloc: Global, canon: &Canon) -> Result<Tree, NoMemory>
     requires { FitsTree canon.now }
     ensures { IfOk result (λ tree. tree ≡ canon.now.nodes) }
 {
-    let Some(count) = count_kids(canon) else {
-        return Err(NoMemory);
-    };
+    let count = count_kids(canon);
     let mut labels = Vec::with_capacity(alloc, canon.len())?;
-    let mut starts = Vec::with_capacity(alloc, canon.len())?;
+    let mut starts = Numbers::with_capacity(alloc, canon.len(), count)?;
     let mut kids = Vec::with_capacity(alloc, count)?;
     for node in 0..canon.len() {
         labels.push(canon.label(node).unwrap())?;
-        starts.push(kids.len() as u32)?;
+        starts.push(kids.len())?;
         push_kids(canon.kids(node), &mut kids)?;
     }
     Ok(Tree {

@@ -1,1 +1,2 @@
+-- Promised: graphs that have no node too many.
 pub mod Minimal

@@ -41,7 +41,7 @@ fn quotient(alloc: Global, graph: &Graph, classes: &Classes) -> Result<Graph, No
     let mut labels = Vec::with_capacity(alloc, classes.count())?;
     let mut kids = Vec::new(alloc);
     for class in 0..classes.count() {
-        let node = classes.members(class)[0] as usize;
+        let node = classes.members(class).get(0);
         labels.push(graph.label(node))?;
         push_classes(classes, graph.kids(node), &mut kids)?;
     }
@@ -49,9 +49,9 @@ fn quotient(alloc: Global, graph: &Graph, classes: &Classes) -> Result<Graph, No
     Ok(quotient)
 }
 
-/// The smallest graph in which all walks from the roots show what they show in this one, and where the roots stand in
+/// The smallest graph in which all walks from the roots show what they show in this one, and the roots' numbers in
 /// it: what the roots reach, one node for each tree. Partition refinement by the smaller half after Hopcroft, so for
-/// bounded arities n log n in the nodes that are reached. The error is want of memory alone.
+/// bounded arities n log n in the nodes that are reached. The error is out of memory alone.
 pub fn minimise(alloc: Global, graph: &Graph, roots: &[usize]) -> Result<Minimal, NoMemory>
     requires { All (λ root. root < length graph.now) roots.now }
     ensures keeps { IfOk result (λ m. KeepsWalks graph.now roots.now m.graph m.roots) }

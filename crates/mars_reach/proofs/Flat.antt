@@ -52,12 +52,12 @@ flat_below g number count (n ∷ nodes) all =
     (All-map (λ kid. kid < count) number (kids_of g n) (All-head (λ n. All (λ kid. number kid < count) (kids_of g n)) n nodes all))
     (flat_below g number count nodes (All-tail (λ n. All (λ kid. number kid < count) (kids_of g n)) n nodes all))
 
--- the labels of nodes, and behind one another their kids under other numbers
+-- the labels of nodes, and one after another their kids under other numbers
 pub record AreLaid (g : List Node) (number : ℕ → ℕ) (nodes : List ℕ) (labels : List (Option Label)) (kids : List ℕ) : Type 0 where
   pub labels_are : labels ≡ map (label_of g) nodes
   pub kids_are : kids ≡ flat_map (numbered_kids g number) nodes
 
--- a node's label and kids are put behind the lists
+-- a node's label and kids are put after the lists
 pub record IsPushed (g : List Node) (number : ℕ → ℕ) (n : ℕ) (labels more : List (Option Label)) (kids less : List ℕ) : Type 0 where
   pub label : Option Label
   pub label_is : label ≡ label_of g n

@@ -28,7 +28,7 @@ label_shown b x y = refl
 free_same : (x y : ℕ) → stands None x ≡ stands None y → x ≡ y
 free_same x y e = cc
 
--- what stands at two nodes stays alike under other numbers
+-- nodes that are alike stay alike under other numbers
 stands_number : (number : ℕ → ℕ) (a b : Option Label) (x y : ℕ) → stands a x ≡ stands b y → stands a (number x) ≡ stands b (number y)
 stands_number number (Some a) (Some b) x y e =
     let same : ◌≡◌ {A = Option Label} (Some a) (Some b) = label_from_stands (Some a) (Some b) x y e in

@@ -1,3 +1,4 @@
+pub mod CallerLemmas
 pub mod Flat
 pub mod Images
 pub mod Numbers

@@ -1,4 +1,4 @@
--- Lists of numbers: their elements, and those in which no number stands twice.
+-- Lists of numbers: their elements, and those in which no number occurs twice.
 use Rattle.std.proofs.Common.{◌≡◌, ◌⊎◌, ℕ, zero, suc, ◌<◌, ◌≤◌, Bool, true, false, cond, nat_eq, List, [], ◌∷◌, ◌++◌, length, get_or, Some, slice_get, refl, sym, subst, ap, ◌∙◌, arith, inl, inr, All, Contains, eq-eqb}
 use Rattle.std.specs.List.{list_any, IsDistinct, AllByRecursion}
 use Rattle.std.proofs.lemmas.Bool.{false≢true, cases_lt}

@@ -48,7 +48,7 @@ bool_cases : (b : Bool) → (b ≡ true) ⊎ (b ≡ false)
 bool_cases true = inl refl
 bool_cases false = inr refl
 
--- what was met stays in front
+-- what was met stays first
 pub met_after-front : (met xs : List ℕ) → (more : List ℕ) × (met_after met xs ≡ met ++ more)
 met_after-front met [] = ([], sym (append-nil met))
 met_after-front met (x ∷ xs) = elim (bool_cases (list_any (nat_eq x) met)) [
@@ -56,7 +56,8 @@ met_after-front met (x ∷ xs) = elim (bool_cases (list_any (nat_eq x) met)) [
   | inr t ↦ let r = met_after-front (met ++ x ∷ []) xs in (x ∷ r.0, ap (λ b. met_after (cond b met (met ++ x ∷ [])) xs) t ∙ r.1 ∙ append_assoc met (x ∷ []) r.0)
 ]
 
-met_after-append : (met xs ys : List ℕ) → met_after met (xs ++ ys) ≡ met_after (met_after met xs) ys
+-- meeting two lists, one after the other
+pub met_after-append : (met xs ys : List ℕ) → met_after met (xs ++ ys) ≡ met_after (met_after met xs) ys
 met_after-append met [] ys = refl
 met_after-append met (x ∷ xs) ys = met_after-append (cond (list_any (nat_eq x) met) met (met ++ x ∷ [])) xs ys
 

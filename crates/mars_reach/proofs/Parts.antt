@@ -6,7 +6,7 @@ use Rattle.std.proofs.lemmas.List.Elements.{All-contains}
 use Rattle.mars_tree.specs.Graph.{Node, IsGraph, kids_of, free_leaf, Same}
 use Rattle.mars_reach.specs.Image.{IsImage}
 use Rattle.mars_reach.specs.Order.{place_in, renumbered_node, renumbered, AreDistinct, IsReach, IsReached}
-use Rattle.mars_reach.specs.Part.{IsClosed, IsPart, ShowsPart}
+use Rattle.mars_reach.specs.Part.{IsClosed, ShowsPart}
 use Rattle.mars_reach.proofs.Images.{image_apart, image_graph, image_keeps, image_reached, image_roots_in, image_small}
 use Rattle.mars_reach.proofs.Numbers.{All-from_gets, All-slice_get, contains_at}
 use Rattle.mars_reach.proofs.Ordering.{order_is_canonical}
@@ -17,7 +17,7 @@ pub node_at : (g : List Node) (number : ℕ → ℕ) (order : List ℕ) (k n : �
 node_at g number order k n e =
     get_or-map (renumbered_node g number) order k 0 free_leaf (slice_get_within order k n e) ∙ ap (renumbered_node g number) (get_or_from_slice_get order k n 0 e)
 
--- places among distinct numbers are those at which they stand
+-- distinct numbers have one place each
 pub place_is : (order : List ℕ) (k n : ℕ) → AreDistinct order → slice_get order k ≡ Some n → place_in order n ≡ k
 place_is order k n distinct e = distinct (place_in order n) k n (place_get order n (contains_at order k n e)) e
 
@@ -70,8 +70,3 @@ part_shows g roots order reach =
       small = image_small g (Contains order) (place_in order) h is;
       apart = λ apart. image_apart g (Contains order) (place_in order) h is (λ u v u_in v_in same. ap (place_in order) (apart u v (is.in_range u u_in) (is.in_range v v_in) same));
     }
-
-pub shows_part : (g : List Node) (roots : List ℕ) (h : List Node) (others : List ℕ) → IsPart g roots h others → ShowsPart g roots h others
-shows_part g roots h others is =
-    subst (λ (k : List Node). ShowsPart g roots k others) (sym is.nodes)
-    (subst (λ (ns : List ℕ). ShowsPart g roots (renumbered g (place_in is.order) is.order) ns) (sym is.placed) (part_shows g roots is.order is.reach))

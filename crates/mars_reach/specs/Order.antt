@@ -1,5 +1,5 @@
 -- Nodes in the order in which a walk over a queue meets them.
-use Rattle.std.specs.Prelude.{◌≡◌, ℕ, suc, ◌<◌, List, [], ◌∷◌, ◌++◌, length, map, take, slice_get, Some, nat_eq, if◌then◌else◌, All, Contains}
+use Rattle.std.specs.Prelude.{◌≡◌, ℕ, suc, ◌<◌, List, [], ◌∷◌, ◌++◌, length, take, Some, nat_eq, if◌then◌else◌, All}
 use Rattle.std.specs.List.{flat_map, list_any}
 use Rattle.mars_tree.specs.Graph.{Node, kids_of}
 use Rattle.mars_tree.specs.Canonical.{walk_end}
@@ -11,7 +11,7 @@ pub use Rattle.mars_tree.specs.Renumbered.{renumbered_node, renumbered}
 abbrev pub with_number : List ℕ → ℕ → List ℕ
 with_number met x = if list_any (nat_eq x) met then met else met ++ x ∷ []
 
--- the numbers met after a list, each once, in order of first appearance, behind those met before
+-- the numbers met after a list, each once, in order of first appearance, after those met before
 abbrev pub met_after : List ℕ → List ℕ → List ℕ
 met_after met [] = met
 met_after met (x ∷ xs) = met_after (with_number met x) xs
@@ -21,7 +21,7 @@ abbrev pub place_in : List ℕ → ℕ → ℕ
 place_in [] x = 0
 place_in (y ∷ ys) x = if nat_eq y x then 0 else suc (place_in ys x)
 
--- the order of a walk over a queue: the roots, then the kids of what stands in the queue, each before it is taken
+-- the order of a walk over a queue: the roots, then the kids of what is in the queue; each node is in the queue before its own turn comes
 pub record IsQueue (g : List Node) (roots order : List ℕ) : Type 0 where
   pub whole : met_after [] (roots ++ flat_map (kids_of g) order) ≡ order
   pub early : (i : ℕ) → i < length order → i < length (met_after [] (roots ++ flat_map (kids_of g) (take i order)))

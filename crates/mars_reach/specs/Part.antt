@@ -1,6 +1,6 @@
 -- The part of a graph that roots reach.
 use Rattle.std.specs.Prelude.{◌≡◌, ℕ, ◌<◌, ◌≤◌, List, length, map, All, Contains}
-use Rattle.mars_tree.specs.Graph.{Node, kids_of, Same}
+use Rattle.mars_tree.specs.Graph.{Node, kids_of}
 use Rattle.mars_tree.specs.Canonical.{KeepsWalks}
 pub use Rattle.mars_tree.specs.Canonical.{IsReduced}
 use Rattle.mars_reach.specs.Order.{place_in, renumbered, IsReach, IsReached, FirstInOrder}

@@ -31,7 +31,7 @@ fn has_free(graph: &Graph, nodes: &Order) -> bool
     false
 }
 
-/// Whether a path from a node ends at a free leaf. Linear in what the node reaches. The error is want of memory alone.
+/// Whether a path from a node ends at a free leaf. Linear in what the node reaches. The error is out of memory alone.
 pub fn reaches_free(alloc: Global, graph: &Graph, root: usize) -> Result<bool, NoMemory>
     requires root_in { root < length graph.now }
     ensures reaches { IfOk result (λ yes. IsTrue yes ↔ ReachesFree graph.now root) }

@@ -1,4 +1,4 @@
-//! Numbers in the order in which they were met: a queue in which each number stands once and is found at once.
+//! Numbers in the order in which they were met: a queue that has each number once, and finds it at once.
 ghost use Rattle.std.specs.Prelude.{◌≡◌, ◌<◌, [], length, slice_get, Some, OnOk, OnErr, Contains};
 ghost use Rattle.mars_reach.specs.Order.{with_number, met_after, place_in, AreDistinct};
 
@@ -40,7 +40,7 @@ impl Order {
         Ok(())
     }
 
-    /// Meets each number of a list. After want of memory some of them may be met.
+    /// Meets each number of a list. Where memory runs out, some of them may have been met.
     pub(crate) fn meet_all(&mut self, numbers: &[usize]) -> Result<(), NoMemory>
         ensures { OnOk result (self.new ≡ met_after self.old numbers.now) }
     {

@@ -9,7 +9,7 @@ use mars_tree::Graph;
 use std::alloc::Global;
 
 /// The nodes that roots reach, breadth first from the roots. Linear in the roots and in the kids of what is reached,
-/// whatever the size of the graph. The error is want of memory alone.
+/// whatever the size of the graph. The error is out of memory alone.
 pub fn reached(alloc: Global, graph: &Graph, roots: &[usize]) -> Result<Order, NoMemory>
     requires { All (λ root. root < length graph.now) roots.now }
     ensures reach { IfOk result (λ order. IsReach graph.now roots.now order) }

@@ -30,7 +30,7 @@ fn push_places(order: &Order, numbers: &[usize], into: &mut Vec<usize>) -> Resul
 }
 
 /// The nodes of an order as a graph of their own, each under its place in the order. Linear in the nodes and their
-/// kids. The error is want of memory alone.
+/// kids. The error is out of memory alone.
 pub fn part(alloc: Global, graph: &Graph, order: &Order) -> Result<Graph, NoMemory>
     requires in_range { All (λ n. n < length graph.now) order.now }
     requires closed { IsClosed graph.now order.now }
@@ -50,8 +50,8 @@ pub fn part(alloc: Global, graph: &Graph, order: &Order) -> Result<Graph, NoMemo
     Ok(part)
 }
 
-/// The part of a graph that roots reach, breadth first from the roots, and where the roots stand in it. Linear in the
-/// roots and in the kids of what is reached, whatever the size of the graph. The error is want of memory alone.
+/// The part of a graph that roots reach, breadth first from the roots, and the numbers of the roots in it. Linear in the
+/// roots and in the kids of what is reached, whatever the size of the graph. The error is out of memory alone.
 pub fn rooted_part(alloc: Global, graph: &Graph, roots: &[usize]) -> Result<RootedGraph, NoMemory>
     requires { All (λ root. root < length graph.now) roots.now }
     ensures part { IfOk result (λ p. IsPart graph.now roots.now p.graph p.roots) }

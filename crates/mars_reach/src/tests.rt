@@ -35,7 +35,11 @@ fn are_below(numbers: &[usize], count: usize) -> bool
 }
 
 /// The part that roots reach, where they are nodes.
-fn part_of<R: Abort + AllocGlobal>(rt: &R, graph: &Graph, roots: &[usize]) -> Result<RootedGraph, Fail> {
+fn part_of<R: Abort + AllocGlobal>(
+    rt: &R,
+    graph: &Graph,
+    roots: &[usize],
+) -> Result<RootedGraph, Fail> {
     assert!(rt; are_below(roots, graph.len()), "roots are nodes");
     Ok(rooted_part(rt.alloc(), graph, roots)?)
 }

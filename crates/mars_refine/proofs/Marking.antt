@@ -1,4 +1,4 @@
--- Which nodes are marked, from where they stand.
+-- Which nodes are marked, from their places.
 use Rattle.std.proofs.Common.{◌≡◌, ℕ, ◌<◌, List, Bool, true, false, length, ltb, set, sym, arith, subst, ap, ◌∙◌, inl, inr}
 use Rattle.std.proofs.lemmas.Bool.{lt-ltb, le-ltb}
 use Rattle.std.proofs.lemmas.List.{ext_get_or, set-get_or}
@@ -12,7 +12,7 @@ use Rattle.mars_refine.proofs.Writing.{true_or_false}
 pub marks_read : (of place : List ℕ) (spans : List Span) (u : ℕ) → u < length of → is_marked (marks_of of place spans) u ≡ ltb (at_place place u) (span_of spans (class_of of u)).middle
 marks_read of place spans u u_in = get_or-map-range_with_len (λ v. ltb (at_place place v) (span_of spans (class_of of v)).middle) 0 (length of) u u false u_in (omega arith)
 
--- the marks are as the nodes stand
+-- the marks are as the places say
 pub marks_are : (of order place : List ℕ) (spans : List Span) (marked : List Bool) → HasSpans of order place spans marked → marked ≡ marks_of of place spans
 marks_are of order place spans marked is =
     ext_get_or false marked (marks_of of place spans) (is.marks_size ∙ sym (length-map-range_with_len (λ u. ltb (at_place place u) (span_of spans (class_of of u)).middle) 0 (length of)))

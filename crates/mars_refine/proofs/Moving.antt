@@ -235,14 +235,14 @@ module _ (of order place : List ℕ) (spans : List Span) (marked : List Bool) (i
       }
 
   -- the span of a node's class by what is read
-  span_reads : (node class : ℕ) (span : Span) → node < length of → class ≡ get_or of node class → span ≡ get_or spans class span → span ≡ span_of spans (class_of of node)
+  span_reads : (node class : ℕ) (span : Span) → node < length of → class ≡ get_or of node 0 → span ≡ get_or spans class span → span ≡ span_of spans (class_of of node)
   span_reads node class span node_in class_is span_is =
-      let e1 : class ≡ class_of of node = get_or_read of node class node_in class_is 0 in
+      let e1 : class ≡ class_of of node = class_is in
       let c_in : class < length spans = omega (arith, is.of_in node node_in) in
       get_or_read spans class span c_in span_is no_span ∙ ap (span_of spans) e1
 
   -- a node is alone exactly where its class has one place
-  pub alone_reads : (node class : ℕ) (span : Span) → node < length of → class ≡ get_or of node class → span ≡ get_or spans class span → (span.end - span.start ≡ 1) ↔ IsAlone of node
+  pub alone_reads : (node class : ℕ) (span : Span) → node < length of → class ≡ get_or of node 0 → span ≡ get_or spans class span → (span.end - span.start ≡ 1) ↔ IsAlone of node
   alone_reads node class span node_in class_is span_is =
       let e = span_reads node class span node_in class_is span_is in
       let c = class_of of node in
@@ -271,9 +271,16 @@ module _ (of order place : List ℕ) (spans : List Span) (marked : List Bool) (i
       )
 
   -- what is read of a node that isn't marked
-  module _ (node class at : ℕ) (span : Span) (node_in : node < length of) (class_is : class ≡ get_or of node class) (span_is : span ≡ get_or spans class span) (at_is : at ≡ get_or place node at) where
+  module _ (node class at : ℕ) (span : Span) (node_in : node < length of) (class_is : class ≡ get_or of node 0) (span_is : span ≡ get_or spans class span) (at_is : at ≡ get_or place node 0) where
     at_read : at ≡ at_place place node
-    at_read = get_or_read place node at (omega (arith, is.ordered.place_size)) at_is 0
+    at_read = at_is
+
+    -- what is written is the number of a node or of a place
+    pub move_within : (other : ℕ) → span.middle ≤ at → other ≡ get_or order span.middle 0 → (at < length of) × (span.middle < length of) × (other < length of) × (length order ≡ length of) × (length place ≡ length of)
+    move_within other le other_is =
+        let at_in : at < length of = omega (arith, at_read, is.ordered.place_in node node_in) in
+        let middle_in : span.middle < length of = omega arith in
+        (at_in, middle_in, omega (arith, other_is, is.ordered.node_in span.middle middle_in), is.ordered.order_size, is.ordered.place_size)
 
     -- before the middle it is marked already
     pub before_middle : at < span.middle → at_place place node < (span_of spans (class_of of node)).middle
@@ -285,14 +292,14 @@ module _ (of order place : List ℕ) (spans : List Span) (marked : List Bool) (i
     pub room_behind : span.middle ≤ at → span.middle < span.end
     room_behind le = omega (arith, at_read, ap (λ (x : Span). x.end) (span_reads node class span node_in class_is span_is), is.to_end node node_in)
 
-    pub move_reads : (other : ℕ) (next : Span) → span.middle ≤ at → other ≡ get_or order span.middle other → next ≡ record { start = span.start; middle = span.middle + 1; end = span.end } →
+    pub move_reads : (other : ℕ) (next : Span) → span.middle ≤ at → other ≡ get_or order span.middle 0 → next ≡ record { start = span.start; middle = span.middle + 1; end = span.end } →
         HasSpans of (set (set order at other) span.middle node) (set (set place other at) node span.middle) (set spans class next) (set marked node true)
     move_reads other next le other_is next_is =
-        let e1 : class ≡ class_of of node = get_or_read of node class node_in class_is 0 in
+        let e1 : class ≡ class_of of node = class_is in
         let e2 : span ≡ span_of spans (class_of of node) = span_reads node class span node_in class_is span_is in
         let e4 : at ≡ at_place place node = at_read in
         let m_in : span.middle < length order = omega (arith, e4, is.ordered.place_in node node_in, is.ordered.order_size) in
-        let e5 : other ≡ at_place order span.middle = get_or_read order span.middle other m_in other_is 0 in
+        let e5 : other ≡ at_place order span.middle = other_is in
         let e6 : span.middle ≡ (span_of spans (class_of of node)).middle = ap (λ (x : Span). x.middle) e2 in
         let whole = move_keeps node node_in (free_behind le) in
         let P : (c a o : ℕ) (m : ℕ) (g : Span) → Type 0 = λ c a o m g. HasSpans of (set (set order a o) m node) (set (set place o a) node m) (set spans c (record { start = g.start; middle = m + 1; end = g.end })) (set marked node true) in
@@ -303,3 +310,10 @@ module _ (of order place : List ℕ) (spans : List Span) (marked : List Bool) (i
         let w4 : P class at other span.middle s = subst (λ (o : ℕ). P class at o span.middle s) (sym e5) w3 in
         let w5 : P class at other span.middle span = subst (λ (g : Span). P class at other span.middle g) (sym e2) w4 in
         subst (λ (s : Span). HasSpans of (set (set order at other) span.middle node) (set (set place other at) node span.middle) (set spans class s) (set marked node true)) (sym next_is) w5
+
+    pub move_done : (other : ℕ) (next : Span) (order1 order2 place1 place2 : List ℕ) → span.middle ≤ at → other ≡ get_or order span.middle 0 → next ≡ record { start = span.start; middle = span.middle + 1; end = span.end } →
+        order1 ≡ set order at other → place1 ≡ set place other at → order2 ≡ set order1 span.middle node → place2 ≡ set place1 node span.middle → HasSpans of order2 place2 (set spans class next) (set marked node true)
+    move_done other next order1 order2 place1 place2 le other_is next_is o1 p1 o2 p2 =
+        let o : order2 ≡ set (set order at other) span.middle node = o2 ∙ ap (λ (xs : List ℕ). set xs span.middle node) o1 in
+        let p : place2 ≡ set (set place other at) node span.middle = p2 ∙ ap (λ (xs : List ℕ). set xs node span.middle) p1 in
+        rw (o, p) (move_reads other next le other_is next_is)

@@ -5,7 +5,8 @@ use Rattle.std.proofs.lemmas.List.{get_or_read, length-take, length-take-le, len
 use Rattle.mars_tree.proofs.Pigeonhole.{pigeonhole, Twice}
 use Rattle.mars_refine.specs.declared.classes.Span.{Span}
 use Rattle.mars_refine.specs.Refine.{class_of}
-use Rattle.mars_refine.specs.Classes.{is_marked, AreEachOnce, AreMembers}
+use Rattle.mars_base.specs.Lists.{AreDistinct}
+use Rattle.mars_refine.specs.Classes.{is_marked, AreMembers}
 use Rattle.std.proofs.Common.{Some, slice_get}
 use Rattle.std.proofs.lemmas.Option.{slice_get_within, get_or_from_slice_get}
 use Rattle.mars_refine.specs.Writes.{put_all}
@@ -60,7 +61,7 @@ back_front s m e lo hi = record {
   apart' = λ p q h1 h2 h3 h4 h5. omega arith;
 }
 
--- what stands in a part of a list
+-- what is in a part of a list
 pub in_part : (xs : List ℕ) (a b u : ℕ) → b ≤ length xs → (i : ℕ) × ((a ≤ i) × (i < b) × (at_place xs i ≡ u)) → Contains (take (b - a) (drop a xs)) u
 in_part xs a b u le (i, h) =
     let size : length (take (b - a) (drop a xs)) ≡ b - a = length-take-le (b - a) (drop a xs) (omega (arith, length-drop a xs)) in
@@ -113,7 +114,7 @@ module _ (of order place : List ℕ) (spans : List Span) (marked : List Bool) (i
     abbrev new_marked : List Bool
     new_marked = put_all marked (take (the_span.middle - the_span.start) (drop the_span.start order)) false
 
-    -- a node of the class stands in its span
+    -- a node of the class is in its span
     in_span : (u : ℕ) → u < length of → class_of of u ≡ class → (the_span.start ≤ at_place place u) × (at_place place u < the_span.end)
     in_span u u_in e = (
       omega (arith, is.from_start u u_in, ap (λ c. (span_of spans c).start) e),
@@ -506,8 +507,8 @@ module _ (of order place : List ℕ) (spans : List Span) (marked : List Bool) (i
         λ h. in_part order s.start s.end u le (at_place place u, (omega (arith, is.from_start u h.0, ap (λ c. (span_of spans c).start) h.1), omega (arith, is.to_end u h.0, ap (λ c. (span_of spans c).end) h.1), is.ordered.there u h.0)),
       )
 
-  -- and each stands once
-  pub members_once : (class : ℕ) → class < length spans → AreEachOnce (take ((span_of spans class).end - (span_of spans class).start) (drop (span_of spans class).start order))
+  -- and each is there once
+  pub members_once : (class : ℕ) → class < length spans → AreDistinct (take ((span_of spans class).end - (span_of spans class).start) (drop (span_of spans class).start order))
   members_once class class_in i j u left right =
       let s = span_of spans class in
       let to : s.end ≤ length of = is.end_le class class_in in

@@ -83,7 +83,7 @@ module _ (g : List Node) (is : IsGraph g) where
         | inr a ↦ inr (inl (omega arith))
       ]
 
-  -- kids that waited wait on behind the class
+  -- kids that waited go on to wait after the class
   still_waits : (old now : List ℕ) (next count x y : ℕ) → Moved old count now → next < count → x < length old → y < length old → (class_of old x ≡ next → class_of old y ≡ next) → (class_of old y ≡ next → class_of old x ≡ next) → Waits old next x y → Waits now (next + 1) x y
   still_waits old now next count x y moved lt x_in y_in there back (inl e) = stay_together old now next count x y moved lt x_in y_in e
   still_waits old now next count x y moved lt x_in y_in there back (inr (inl e)) =

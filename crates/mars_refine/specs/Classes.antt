@@ -1,5 +1,5 @@
 -- The classes of nodes, and how marks part them.
-use Rattle.std.specs.Prelude.{◌≡◌, ◌↔◌, ◌⊎◌, ℕ, ◌<◌, ◌≤◌, List, Bool, true, false, length, Some, slice_get, slice_set, slice_index_or, Contains}
+use Rattle.std.specs.Prelude.{◌≡◌, ◌↔◌, ◌⊎◌, ℕ, ◌<◌, ◌≤◌, List, Bool, true, false, length, slice_set, slice_index_or, Contains}
 use Rattle.mars_refine.specs.Refine.{class_of, Moved}
 
 -- the class of each node, how many classes there are, and which nodes are marked
@@ -31,10 +31,6 @@ pub record IsSplit (old new : Parted) : Type 0 where
 -- the nodes of a class
 abbrev pub AreMembers : List ℕ → ℕ → List ℕ → Type 0
 AreMembers of class members = (u : ℕ) → Contains members u ↔ ((u < length of) × (class_of of u ≡ class))
-
--- no node stands twice
-abbrev pub AreEachOnce : List ℕ → Type 0
-AreEachOnce nodes = (i j u : ℕ) → slice_get nodes i ≡ Some u → slice_get nodes j ≡ Some u → i ≡ j
 
 -- no node is marked
 abbrev pub AreFree : Parted → Type 0

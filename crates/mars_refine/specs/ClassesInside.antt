@@ -1,16 +1,17 @@
 -- How the nodes of classes are laid out, and the steps of a split.
 use Rattle.std.specs.Prelude.{◌≡◌, ◌≢◌, ◌↔◌, ℕ, ◌<◌, ◌≤◌, List, Bool, true, false, length, map, ltb, slice_index_or, All, Contains}
 use Rattle.std.specs.List.{range_with_len}
+use Rattle.mars_base.specs.Numbers.{NumberList}
 use Rattle.mars_refine.specs.declared.classes.Span.{Span}
 use Rattle.mars_refine.specs.declared.classes.Parts.{Parts}
 use Rattle.mars_refine.specs.Refine.{class_of, Moved}
 use Rattle.mars_refine.specs.Classes.{Parted, is_marked}
 
--- what stands at a place
+-- what is at a place
 abbrev pub at_place : List ℕ → ℕ → ℕ
 at_place xs i = slice_index_or xs i 0
 
--- where the nodes of a class stand
+-- the places of a class
 abbrev pub span_of : List Span → ℕ → Span
 span_of spans c = slice_index_or spans c (record { start = 0; middle = 0; end = 0 })
 
@@ -23,7 +24,7 @@ pub record IsOrder (size : ℕ) (order place : List ℕ) : Type 0 where
   pub there : (u : ℕ) → u < size → at_place order (at_place place u) ≡ u
   pub back : (i : ℕ) → i < size → at_place place (at_place order i) ≡ i
 
--- the nodes of a class stand from its start to its end, the marked ones before its middle
+-- the nodes of a class are from its start to its end, the marked ones before its middle
 pub record HasSpans (of order place : List ℕ) (spans : List Span) (marked : List Bool) : Type 0 where
   pub ordered : IsOrder (length of) order place
   pub marks_size : length marked ≡ length of
@@ -38,13 +39,20 @@ pub record HasSpans (of order place : List ℕ) (spans : List Span) (marked : Li
   pub front : (u : ℕ) → u < length of → is_marked marked u ≡ true → at_place place u < (span_of spans (class_of of u)).middle
   pub behind : (u : ℕ) → u < length of → is_marked marked u ≡ false → (span_of spans (class_of of u)).middle ≤ at_place place u
 
--- a node is marked where it stands before the middle of its class
+-- a node is marked where its place is before the middle of its class
 abbrev pub marks_of : List ℕ → List ℕ → List Span → List Bool
 marks_of of place spans = map (λ u. ltb (at_place place u) (span_of spans (class_of of u)).middle) (range_with_len 0 (length of))
 
+-- the lists have room for each node's number
+pub record HaveRoom (of order place : NumberList) : Type 0 where
+  pub of_most : length of.items ≤ of.most
+  pub order_most : length of.items ≤ order.most
+  pub place_most : length of.items ≤ place.most
+
 -- the fields of `Parts` are laid out so
-abbrev pub IsPartedInside : Parts → Type 0
-IsPartedInside p = HasSpans p.of.items p.order.items p.place.items p.spans.items (marks_of p.of.items p.place.items p.spans.items)
+pub record IsPartedInside (p : Parts) : Type 0 where
+  pub spans : HasSpans p.of.items p.order.items p.place.items p.spans.items (marks_of p.of.items p.place.items p.spans.items)
+  pub room : HaveRoom p.of p.order p.place
 
 -- what contracts see of the fields
 abbrev pub parted_of : Parts → Parted

@@ -2,18 +2,17 @@
 ghost use Rattle.std.specs.Prelude.{◌≡◌, ◌<◌, ◌≤◌, ◌++◌, ◌∷◌, [], ℕ, length, slice_index_or, IfOk, OnOk};
 ghost use Rattle.mars_refine.specs.Chains.{Keyed, IsLast};
 
-use crate::small::small;
 use crate::writes::write_all;
-use mars_base::NoMemory;
+use mars_base::{NoMemory, Numbers};
 use std::alloc::Global;
 use std::marker::Model;
 
 /// The keys of entries, each entry linked to the one before it with its key. A link is one more than the entry, or 0 for none.
 #[derive(Drop)]
 pub struct Chains {
-    lasts: Vec<u32>,
-    keys: Vec<u32>,
-    befores: Vec<u32>,
+    lasts: Numbers,
+    keys: Numbers,
+    befores: Numbers,
 }
 
 impl Model for Chains {
@@ -33,48 +32,54 @@ impl Chains {
         ensures { IfOk result (λ c. c ≡ record { size = size; keys = [] }) }
     {
         Ok(Chains {
-            lasts: vec![in alloc; 0; size]?,
-            keys: Vec::new(alloc),
-            befores: Vec::new(alloc),
+            lasts: Numbers::zeros(alloc, size, 0)?,
+            keys: Numbers::new(alloc, 0),
+            befores: Numbers::new(alloc, 0),
         })
     }
 
     /// Adds the next entry.
-    pub fn push(&mut self, key: u32) -> Result<(), NoMemory>
+    pub fn push(&mut self, key: usize) -> Result<(), NoMemory>
         requires { key < self.old.size }
         ensures { OnOk result (self.new ≡ record { size = self.old.size; keys = self.old.keys ++ key ∷ [] }) }
     {
-        let count = small(self.keys.len() + 1)?;
-        self.keys.reserve(1)?;
-        self.befores.reserve(1)?;
-        self.keys.push_reserved(key);
-        self.befores.push_reserved(self.lasts[key as usize]);
-        self.lasts[key as usize] = count;
-        Ok(())
+        let count = self.keys.len() + 1;
+        self.lasts.fit(count)?;
+        self.befores.push(self.lasts.get(key))?;
+        match self.keys.push(key) {
+            Ok(()) => {
+                self.lasts.set(key, count);
+                Ok(())
+            }
+            Err(error) => {
+                self.befores.truncate(count - 1);
+                Err(error)
+            }
+        }
     }
 
-    /// Takes all entries away, in time linear in them.
+    /// Removes all entries, in time linear in them.
     pub fn clear(&mut self)
         ensures { self.new ≡ record { size = self.old.size; keys = [] } }
     {
-        write_all(&mut self.lasts, &self.keys, 0);
+        write_all(&mut self.lasts, &self.keys.part(0, self.keys.len()), 0);
         self.keys.clear();
         self.befores.clear();
     }
 
     /// How many entries there are up to the last with the key.
-    pub fn last(&self, key: usize) -> u32
+    pub fn last(&self, key: usize) -> usize
         requires { key < self.now.size }
         ensures { IsLast self.now.keys key (length self.now.keys) result }
     {
-        self.lasts[key]
+        self.lasts.get(key)
     }
 
     /// How many entries there are up to the last with the same key before an entry.
-    pub fn before(&self, entry: u32) -> u32
+    pub fn before(&self, entry: usize) -> usize
         requires { entry < length self.now.keys }
         ensures { IsLast self.now.keys (slice_index_or self.now.keys entry 0) entry result }
     {
-        self.befores[entry as usize]
+        self.befores.get(entry)
     }
 }

@@ -1,14 +1,14 @@
 //! A partition of nodes into classes that are split by marks, the smaller part under a new number (Hopcroft 1971).
 //!
-//! A split costs time linear in the marks. After want of memory the classes hold together and are dropped by the caller.
+//! A split costs time linear in the marks. Where memory runs out, the classes hold together and are dropped by the caller.
 ghost use Rattle.std.specs.Prelude.{◌≡◌, ◌↔◌, ◌⊎◌, ◌<◌, ◌≤◌, ◌+◌, ◌-◌, [], ℕ, true, false, length, slice_set, IsTrue, IfOk, OnOk, OnErr, All, Contains, replicate, slice_range};
-ghost use Rattle.mars_refine.specs.Classes.{Parted, AreEachOnce, AreMembers, IsAlone, IsMarking, IsSplit};
+ghost use Rattle.mars_base.specs.Lists.{AreDistinct};
+ghost use Rattle.mars_refine.specs.Classes.{Parted, AreMembers, IsAlone, IsMarking, IsSplit};
 ghost use Rattle.mars_refine.specs.ClassesInside.{IsPartedInside, at_place, AreTouched, parted_of, SplitsOne, span_of};
 ghost use Rattle.mars_refine.specs.Refine.{class_of};
 
-use crate::small::small;
 use crate::writes::write_all;
-use mars_base::NoMemory;
+use mars_base::{NoMemory, NumberPart, Numbers};
 use std::alloc::Global;
 use std::marker::Model;
 
@@ -16,25 +16,25 @@ use std::marker::Model;
 #[derive(Drop)]
 pub struct Classes {
     parts: Parts,
-    touched: Vec<u32>,
+    touched: Numbers,
 }
 
-/// The nodes of a class stand next to each other in `order`, those that are marked in front: a node is marked where its
-/// place is before the middle of its class.
+/// The nodes of a class are next to each other in `order`, the marked ones first: a node is marked where its place is
+/// before the middle of its class.
 #[derive(Drop)]
 struct Parts {
-    of: Vec<u32>,
-    order: Vec<u32>,
-    place: Vec<u32>,
+    of: Numbers,
+    order: Numbers,
+    place: Numbers,
     spans: Vec<Span>,
 }
 
-/// Where the nodes of a class stand: the marked ones from `start` to `middle`, the others from there to `end`.
+/// The places of the nodes of a class: the marked ones from `start` to `middle`, the others from there to `end`.
 #[derive(Clone, Copy)]
 struct Span {
-    start: u32,
-    middle: u32,
-    end: u32,
+    start: usize,
+    middle: usize,
+    end: usize,
 }
 
 impl Model for Classes {
@@ -54,10 +54,10 @@ impl Classes {
         ensures of { IfOk result (λ c. c.of ≡ replicate count 0) }
         ensures marked { IfOk result (λ c. c.marked ≡ replicate count false) }
     {
-        let parts = all_in_one(alloc, small(count)?)?;
+        let parts = all_in_one(alloc, count)?;
         Ok(Classes {
             parts,
-            touched: Vec::new(alloc),
+            touched: Numbers::new(alloc, count),
         })
     }
 
@@ -76,22 +76,22 @@ impl Classes {
         ensures class { result ≡ class_of self.now.of node }
         ensures below { result < self.now.count }
     {
-        self.parts.of[node] as usize
+        self.parts.of.get(node)
     }
 
     /// The nodes of a class, each once, in no order that is promised. There is at least one.
-    pub fn members(&self, class: usize) -> &[u32]
+    pub fn members(&self, class: usize) -> NumberPart<'_>
         requires { class < self.now.count }
-        ensures members { AreMembers self.now.of class result.now }
-        ensures once { AreEachOnce result.now }
-        ensures some { 0 < length result.now }
+        ensures members { AreMembers self.now.of class result }
+        ensures once { AreDistinct result }
+        ensures some { 0 < length result }
     {
         let span = self.parts.spans[class];
-        slice(&self.parts.order, span.start, span.end)
+        self.parts.order.part(span.start, span.end)
     }
 
     /// Marks a node, in constant time. One that is alone in its class needs no mark, since no split parts it.
-    pub(crate) fn mark(&mut self, node: u32) -> Result<(), NoMemory>
+    pub(crate) fn mark(&mut self, node: usize) -> Result<(), NoMemory>
         requires { node < length self.old.of }
         ensures of { self.new.of ≡ self.old.of }
         ensures count { self.new.count ≡ self.old.count }
@@ -106,7 +106,7 @@ impl Classes {
         Ok(())
     }
 
-    /// Parts the marked nodes of each class from the others, and takes all marks away, in time linear in the marks.
+    /// Parts the marked nodes of each class from the others, and removes all marks, in time linear in the marks.
     pub(crate) fn split(&mut self) -> Result<(), NoMemory>
         ensures { OnOk result (IsSplit self.old self.new) }
     {
@@ -117,11 +117,12 @@ impl Classes {
 }
 
 /// All numbers below a count, in order.
-fn numbers_below(alloc: Global, count: u32) -> Result<Vec<u32>, NoMemory>
+fn numbers_below(alloc: Global, count: usize) -> Result<Numbers, NoMemory>
     ensures size { IfOk result (λ all. length all.items ≡ count) }
+    ensures most { IfOk result (λ all. count ≤ all.most) }
     ensures are { IfOk result (λ all. (i : ℕ) → i < count → at_place all.items i ≡ i) }
 {
-    let mut all = Vec::new(alloc);
+    let mut all = Numbers::new(alloc, count);
     for number in 0..count {
         all.push(number)?;
     }
@@ -129,7 +130,7 @@ fn numbers_below(alloc: Global, count: u32) -> Result<Vec<u32>, NoMemory>
 }
 
 /// All nodes in one class, or no class where there is no node.
-fn all_in_one(alloc: Global, count: u32) -> Result<Parts, NoMemory>
+fn all_in_one(alloc: Global, count: usize) -> Result<Parts, NoMemory>
     ensures parted { IfOk result (λ p. IsPartedInside p) }
     ensures of { IfOk result (λ p. p.of.items ≡ replicate count 0) }
     ensures marked { IfOk result (λ p. (parted_of p).marked ≡ replicate count false) }
@@ -143,43 +144,34 @@ fn all_in_one(alloc: Global, count: u32) -> Result<Parts, NoMemory>
         })?;
     }
     Ok(Parts {
-        of: vec![in alloc; 0; count as usize]?,
+        of: Numbers::zeros(alloc, count, count)?,
         order: numbers_below(alloc, count)?,
         place: numbers_below(alloc, count)?,
         spans,
     })
 }
 
-/// The numbers from one place to another.
-fn slice(numbers: &[u32], from: u32, to: u32) -> &[u32]
-    requires order { from ≤ to }
-    requires within { to ≤ length numbers.now }
-    ensures { result.now ≡ slice_range numbers.now from to }
-{
-    &numbers[from as usize..to as usize]
-}
-
 /// Whether a node is the only one of its class.
-fn is_alone(parts: &Parts, node: u32) -> bool
+fn is_alone(parts: &Parts, node: usize) -> bool
     requires parted { IsPartedInside parts.now }
     requires node_in { node < length parts.now.of.items }
     ensures { IsTrue result ↔ IsAlone parts.now.of.items node }
 {
-    let class = parts.of[node as usize];
-    let span = parts.spans[class as usize];
+    let class = parts.of.get(node);
+    let span = parts.spans[class];
     span.end - span.start == 1
 }
 
 /// Puts the class of a node into the list, where it isn't there for another node.
-fn touch(touched: &mut Vec<u32>, parts: &Parts, node: u32) -> Result<(), NoMemory>
+fn touch(touched: &mut Numbers, parts: &Parts, node: usize) -> Result<(), NoMemory>
     requires parted { IsPartedInside parts.now }
     requires node_in { node < length parts.now.of.items }
     requires touched { AreTouched (parted_of parts.now) touched.old.items }
     ensures touched { AreTouched (parted_of parts.now) touched.new.items }
     ensures there { OnOk result (Contains touched.new.items (class_of parts.now.of.items node)) }
 {
-    let class = parts.of[node as usize];
-    let span = parts.spans[class as usize];
+    let class = parts.of.get(node);
+    let span = parts.spans[class];
     if span.start == span.middle {
         touched.push(class)?;
     }
@@ -199,8 +191,8 @@ fn one_marked_more(span: Span) -> Span
     }
 }
 
-/// Moves a node to the front of its class, behind those that are marked, and marks it.
-fn move_front(parts: &mut Parts, node: u32)
+/// Moves a node towards the front of its class, after those that are marked, and marks it.
+fn move_front(parts: &mut Parts, node: usize)
     requires parted { IsPartedInside parts.old }
     requires node_in { node < length parts.old.of.items }
     ensures parted { IsPartedInside parts.new }
@@ -208,19 +200,19 @@ fn move_front(parts: &mut Parts, node: u32)
     ensures count { length parts.new.spans.items ≡ length parts.old.spans.items }
     ensures marked { (parted_of parts.new).marked ≡ slice_set (parted_of parts.old).marked node true }
 {
-    let class = parts.of[node as usize];
-    let span = parts.spans[class as usize];
+    let class = parts.of.get(node);
+    let span = parts.spans[class];
     let middle = span.middle;
-    let at = parts.place[node as usize];
+    let at = parts.place.get(node);
     if at < middle {
         return;
     }
-    let other = parts.order[middle as usize];
-    parts.order[at as usize] = other;
-    parts.place[other as usize] = at;
-    parts.order[middle as usize] = node;
-    parts.place[node as usize] = middle;
-    parts.spans[class as usize] = one_marked_more(span);
+    let other = parts.order.get(middle);
+    parts.order.set(at, other);
+    parts.place.set(other, at);
+    parts.order.set(middle, node);
+    parts.place.set(node, middle);
+    parts.spans[class] = one_marked_more(span);
 }
 
 /// The two, the shorter one first.
@@ -248,7 +240,7 @@ fn part_class(parts: &mut Parts, class: usize) -> Result<(), NoMemory>
     ensures err { OnErr result (parted_of parts.new ≡ parted_of parts.old) }
 {
     let Span { start, middle, end } = parts.spans[class];
-    let new = small(parts.spans.len())?;
+    let new = parts.spans.len();
     let front = Span {
         start,
         middle: start,
@@ -262,15 +254,11 @@ fn part_class(parts: &mut Parts, class: usize) -> Result<(), NoMemory>
     let (less, more) = smaller_first(front, back);
     parts.spans.push(less)?;
     parts.spans[class] = more;
-    write_all(
-        &mut parts.of,
-        slice(&parts.order, less.start, less.end),
-        new,
-    );
+    write_all(&mut parts.of, &parts.order.part(less.start, less.end), new);
     Ok(())
 }
 
-/// Takes the marks away from a class of which all nodes are marked or none.
+/// Removes the marks of a class of which all nodes are marked or none.
 fn unmark_class(parts: &mut Parts, class: usize)
     requires parted { IsPartedInside parts.old }
     requires class_in { class < length parts.old.spans.items }
@@ -307,15 +295,15 @@ fn split_class(parts: &mut Parts, class: usize) -> Result<(), NoMemory>
 }
 
 /// Parts the classes of a list, one after another.
-fn split_each(parts: &mut Parts, touched: &[u32]) -> Result<(), NoMemory>
+fn split_each(parts: &mut Parts, touched: &Numbers) -> Result<(), NoMemory>
     requires parted { IsPartedInside parts.old }
-    requires touched { AreTouched (parted_of parts.old) touched.now }
+    requires touched { AreTouched (parted_of parts.old) touched.now.items }
     ensures parted { IsPartedInside parts.new }
     ensures ok { OnOk result (IsSplit (parted_of parts.old) (parted_of parts.new)) }
-    ensures touched { OnErr result (AreTouched (parted_of parts.new) touched.now) }
+    ensures touched { OnErr result (AreTouched (parted_of parts.new) touched.now.items) }
 {
-    for class in touched {
-        split_class(parts, *class as usize)?;
+    for index in 0..touched.len() {
+        split_class(parts, touched.get(index))?;
     }
     Ok(())
 }

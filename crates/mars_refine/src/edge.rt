@@ -1,8 +1,8 @@
 //! An edge of a graph.
 
-/// A place of a node where a kid stands, counted from 0.
+/// A node and a place among its kids, counted from 0.
 #[derive(Clone, Copy, Debug, PartialEq, Eq)]
 pub struct Edge {
-    pub node: u32,
-    pub place: u32,
+    pub node: usize,
+    pub place: usize,
 }

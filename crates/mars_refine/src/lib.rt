@@ -9,7 +9,6 @@ mod found;
 mod links;
 mod marks;
 mod refine;
-mod small;
 mod writes;
 
 pub use classes::Classes;

@@ -7,9 +7,8 @@ ghost use Rattle.mars_refine.specs.Chains.{Keyed};
 
 use crate::chains::Chains;
 use crate::classes::Classes;
-use crate::small::small;
 use indexmap::IndexSet;
-use mars_base::NoMemory;
+use mars_base::{NoMemory, Numbers};
 use mars_tree::{Graph, Label};
 use std::alloc::Global;
 
@@ -32,26 +31,26 @@ fn shown_at(graph: &Graph, node: usize) -> NodeLabel
 }
 
 /// Numbers of nodes that are equal exactly where the same is shown.
-fn numbers(alloc: Global, graph: &Graph) -> Result<Vec<u32>, NoMemory>
+fn numbers(alloc: Global, graph: &Graph) -> Result<Numbers, NoMemory>
     ensures { IfOk result (λ n. AreNumbers graph.now n.items) }
 {
     let mut marks = IndexSet::new(alloc);
-    let mut numbers = Vec::new(alloc);
+    let mut numbers = Numbers::new(alloc, graph.len());
     for node in 0..graph.len() {
         let (number, _new) = marks.insert_full(shown_at(graph, node))?;
-        numbers.push(small(number)?)?;
+        numbers.push(number)?;
     }
     Ok(numbers)
 }
 
 /// The numbers as keys of entries.
-fn chained(alloc: Global, size: usize, numbers: &[u32]) -> Result<Chains, NoMemory>
-    requires { All (λ n. n < size) numbers.now }
-    ensures { IfOk result (λ c. c ≡ record { size = size; keys = numbers.now }) }
+fn chained(alloc: Global, size: usize, numbers: &Numbers) -> Result<Chains, NoMemory>
+    requires { All (λ n. n < size) numbers.now.items }
+    ensures { IfOk result (λ c. c ≡ record { size = size; keys = numbers.now.items }) }
 {
     let mut chains = Chains::new(alloc, size)?;
-    for number in numbers {
-        chains.push(*number)?;
+    for node in 0..numbers.len() {
+        chains.push(numbers.get(node))?;
     }
     Ok(chains)
 }

@@ -21,16 +21,16 @@ use mars_tree::Graph;
 use std::alloc::Global;
 
 /// Parts the nodes that have a found edge at the place from those that have none, in time linear in these edges.
-fn split_by_place(found: &Found, place: u32, classes: &mut Classes) -> Result<(), NoMemory>
+fn split_by_place(found: &Found, place: usize, classes: &mut Classes) -> Result<(), NoMemory>
     requires place_in { place < found.now.by_place.size }
     requires beside { AreByPlace found.now.edges.items found.now.by_place.keys }
     requires nodes { All (λ e. e.node < length classes.old.of) found.now.edges.items }
     requires free { AreFree classes.old }
     ensures { OnOk result (IsSplitBy (λ u. Contains found.now.edges.items (record { node = u; place = place })) classes.old classes.new) }
 {
-    let mut count = found.by_place.last(place as usize);
+    let mut count = found.by_place.last(place);
     while count > 0 {
-        classes.mark(found.edges[count as usize - 1].node)?;
+        classes.mark(found.edges[count - 1].node)?;
         count = found.by_place.before(count - 1);
     }
     classes.split()?;
@@ -61,7 +61,7 @@ fn split_by_class(
     find_edges(graph, edges, class, classes, found)?;
     for entry in 0..found.edges.len() {
         let place = found.edges[entry].place;
-        if found.by_place.last(place as usize) as usize == entry + 1 {
+        if found.by_place.last(place) == entry + 1 {
             split_by_place(found, place, classes)?;
         }
     }
@@ -70,8 +70,7 @@ fn split_by_class(
 
 /// The classes of a graph's nodes: two nodes are in one class exactly where they are the same tree, finite or infinite.
 /// Free leaves are each a tree of their own. With `n` nodes, and edges in proportion to them, the time is in proportion
-/// to `n log n` and the memory to `n`, however many kids one node has. The error is want of memory alone, which a graph of
-/// 2^32 nodes or edges or more is too: the arrays here number both in 32 bits.
+/// to `n log n` and the memory to `n`, however many kids one node has. The error is out of memory alone.
 pub fn classes_by_tree(alloc: Global, graph: &Graph) -> Result<Classes, NoMemory>
     ensures size { IfOk result (λ c. length c.of ≡ length graph.now) }
     ensures trees { IfOk result (λ c. AreTrees graph.now c.of) }

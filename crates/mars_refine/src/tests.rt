@@ -126,6 +126,6 @@ fn members_of_classes(rt: HostRuntime) -> Result<(), Fail> {
     assert_eq!(rt; classes.members(classes.of(first)).len(), 2);
     let alone = classes.members(classes.of(free));
     assert_eq!(rt; alone.len(), 1);
-    assert_eq!(rt; alone[0] as usize, free);
+    assert_eq!(rt; alone.get(0), free);
     Ok(())
 }

@@ -5,11 +5,8 @@ use Rattle.mars_tree.specs.Graph.{Node}
 use Rattle.mars_tree.specs.Canonical.{IsCanonical}
 use Rattle.mars_tree.specs.Equality.{all_kids}
 use Rattle.mars_canon.proofs.Forms.{one_root_canonical}
-use Rattle.mars_canon.proofs.Laying.{labels_in, laid_from_graph, nodes_from_graph, labels_more, kids_more, starts_more, kids_bound}
+use Rattle.mars_canon.proofs.Laying.{labels_in, laid_from_graph, nodes_from_graph, labels_more, kids_more, starts_more}
 use Rattle.mars_canon.proofs.tree.laid_out.Goals as goal
-
-pub overflow_cast-len : goal.overflow_cast-len
-overflow_cast-len c = omega (arith, c.loop-node.kids.ok.0, ap length c.loop-node.invariant.kids, kids_bound c.args.canon.now.nodes c.loop-node.node, c.in-Some.ensures.count, c.in-Some.ensures.bound)
 
 pub loop-node-preserved : goal.loop-node-preserved
 loop-node-preserved c =

@@ -1,4 +1,4 @@
-use Rattle.std.proofs.Common.{◌≡◌, ◌<◌, ℕ, List, length, get_or, sym, subst, arith}
+use Rattle.std.proofs.Common.{◌≡◌, ◌<◌, ℕ, List, length, get_or, sym, subst, ap, ◌∙◌, arith}
 use Rattle.std.proofs.lemmas.List.Elements.{Contains-get_or}
 use Rattle.mars_tree.specs.Graph.{Node}
 use Rattle.mars_refine.specs.Refine.{class_of}
@@ -8,16 +8,16 @@ use Rattle.mars_minim.proofs.Quotients.{no_firsts, firsts_more, quotient_image, 
 use Rattle.mars_minim.proofs.smallest.quotient.Goals as goal
 
 -- the first member of a class
-first_in : (of members : List ℕ) (class count : ℕ) → AreMembers of class members → 0 < length members → length of ≡ count → (get_or members 0 0 < count) × (class_of of (get_or members 0 0) ≡ class)
-first_in of members class count are some size =
-    let is = (are (get_or members 0 0)).0 (Contains-get_or members 0 0 some) in
-    (omega (arith, is.0, size), is.1)
+first_in : (of members : List ℕ) (class count node : ℕ) → AreMembers of class members → 0 < length members → length of ≡ count → node ≡ get_or members 0 0 → (node < count) × (class_of of node ≡ class)
+first_in of members class count node are some size is =
+    let member = (are (get_or members 0 0)).0 (Contains-get_or members 0 0 some) in
+    (omega (arith, member.0, size, is), ap (class_of of) is ∙ member.1)
 
 pub label-requires : goal.label-requires
-label-requires c = (first_in c.args.classes.now.of c.members.result.now c.loop-class.class (length c.args.graph.now) c.members.ensures.members c.members.ensures.some c.requires.size).0
+label-requires c = (first_in c.args.classes.now.of c.members.result c.loop-class.class (length c.args.graph.now) c.get-node.result c.members.ensures.members c.members.ensures.some c.requires.size c.get-node.ensures).0
 
 pub kids-requires : goal.kids-requires
-kids-requires c = (first_in c.args.classes.now.of c.members.result.now c.loop-class.class (length c.args.graph.now) c.members.ensures.members c.members.ensures.some c.requires.size).0
+kids-requires c = (first_in c.args.classes.now.of c.members.result c.loop-class.class (length c.args.graph.now) c.get-node.result c.members.ensures.members c.members.ensures.some c.requires.size c.get-node.ensures).0
 
 pub loop-class-init : goal.loop-class-init
 loop-class-init c = no_firsts c.args.graph.now c.args.classes.now.of c.in_ok-labels.labels.items c.new-kids.result.items c.in_ok-labels.ensures.items c.new-kids.ensures.items
@@ -26,8 +26,8 @@ pub loop-class-preserved : goal.loop-class-preserved
 loop-class-preserved c =
     let g = c.args.graph.now in
     let of : List ℕ = c.args.classes.now.of in
-    let first = first_in of c.members.result.now c.loop-class.class (length g) c.members.ensures.members c.members.ensures.some c.requires.size in
-    firsts_more g of c.loop-class.class (get_or c.members.result.now 0 0) c.loop-class.labels.items c.push.new.self.items c.loop-class.kids.items c.push_classes.new.into.items c.loop-class.invariant first.0 first.1 (record {
+    let first = first_in of c.members.result c.loop-class.class (length g) c.get-node.result c.members.ensures.members c.members.ensures.some c.requires.size c.get-node.ensures in
+    firsts_more g of c.loop-class.class c.get-node.result c.loop-class.labels.items c.push.new.self.items c.loop-class.kids.items c.push_classes.new.into.items c.loop-class.invariant first.0 first.1 (record {
       label = c.label.result;
       label_is = c.label.ensures;
       labels_are = c.in_ok-push.ensures.items;

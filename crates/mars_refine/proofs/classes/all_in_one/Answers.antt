@@ -1,4 +1,5 @@
-use Rattle.std.proofs.Common.{◌≡◌, ◌<◌, ◌⊎◌, [], ◌∷◌, false, replicate, refl, sym, arith, inl, inr}
+use Rattle.std.proofs.Common.{ℕ, ◌≡◌, ◌<◌, ◌⊎◌, [], ◌∷◌, false, replicate, length, ap, refl, sym, arith, inl, inr}
+use Rattle.std.proofs.lemmas.List.{length-replicate}
 use Rattle.mars_refine.proofs.Marking.{marks_are, as_they_stand}
 use Rattle.mars_refine.proofs.Parting.{one_class}
 use Rattle.mars_refine.proofs.classes.all_in_one.Goals as goal
@@ -13,8 +14,11 @@ returns-clause-parted c =
     ] in
     let order = c.in_ok-numbers_below.ensures in
     let place = c.in_ok-numbers_below-2.ensures in
-    as_they_stand _ _ _ _ _ (one_class c.args.count c.in_ok-vec.field-0.items c.in_ok-numbers_below.field-0.items c.in_ok-numbers_below-2.field-0.items c.if-count-gt0.spans.items (replicate c.args.count false)
-    (c.in_ok-vec.ensures.items_if_clones_equal (λ y e. e)) refl order.are order.size place.are place.size spans)
+    record {
+      spans = as_they_stand _ _ _ _ _ (one_class c.args.count c.in_ok-zeros.field-0.items c.in_ok-numbers_below.field-0.items c.in_ok-numbers_below-2.field-0.items c.if-count-gt0.spans.items (replicate c.args.count false)
+          (c.in_ok-zeros.ensures.items) refl order.are order.size place.are place.size spans);
+      room = record { of_most = omega (arith, ap length c.in_ok-zeros.ensures.items, length-replicate {A = ℕ} c.args.count 0, c.in_ok-zeros.ensures.most); order_most = omega (arith, ap length c.in_ok-zeros.ensures.items, length-replicate {A = ℕ} c.args.count 0, order.most); place_most = omega (arith, ap length c.in_ok-zeros.ensures.items, length-replicate {A = ℕ} c.args.count 0, place.most) };
+    }
 
 pub returns-clause-marked : goal.returns-clause-marked
 returns-clause-marked c =
@@ -25,5 +29,5 @@ returns-clause-marked c =
     ] in
     let order = c.in_ok-numbers_below.ensures in
     let place = c.in_ok-numbers_below-2.ensures in
-    sym (marks_are _ _ _ _ _ (one_class c.args.count c.in_ok-vec.field-0.items c.in_ok-numbers_below.field-0.items c.in_ok-numbers_below-2.field-0.items c.if-count-gt0.spans.items (replicate c.args.count false)
-    (c.in_ok-vec.ensures.items_if_clones_equal (λ y e. e)) refl order.are order.size place.are place.size spans))
+    sym (marks_are _ _ _ _ _ (one_class c.args.count c.in_ok-zeros.field-0.items c.in_ok-numbers_below.field-0.items c.in_ok-numbers_below-2.field-0.items c.if-count-gt0.spans.items (replicate c.args.count false)
+    (c.in_ok-zeros.ensures.items) refl order.are order.size place.are place.size spans))
