@@ -89,7 +89,7 @@ fn rows(alloc: Global, size: usize) -> Result<Workload, NoMemory> {
     })
 }
 
-/// The same, with a variable between the dots of one row: no two pairs lie on one diagonal of node numbers.
+/// The same, with a variable between the dots of one row: no two pairs are on one diagonal of node numbers.
 fn spaced(alloc: Global, size: usize) -> Result<Workload, NoMemory> {
     let mut store = Store::new(alloc);
     let element = store.add(AA, &[])?;

@@ -3,7 +3,7 @@
 -- the laws of this crate
 pub use Rattle.mars_store.proofs.Plain.{plain_solves, plain_decides, new_names-new, free_unforced, difs_independent}
 pub use Rattle.mars_store.proofs.Shown.{labels_shown, leaves_shown, same_shown}
-pub use Rattle.mars_store.proofs.Marks.{mark_made, mark_kept, marks_nested}
+pub use Rattle.mars_store.proofs.Marks.{mark_made, mark_kept, marks_nested, marks-push, marks-kept, marks-pop}
 pub use Rattle.mars_store.proofs.Growing.{equation_solved, system-node, node_solved, node_last, node_continued, older_solved, larger_solved, trees_stay}
 -- links and their ends
 pub use Rattle.mars_store.proofs.Links.{leaf_node, resolve-unbound, resolve-same, resolve-last, resolve-inside, triangular-push, All-front, All-after}

@@ -1,5 +1,4 @@
 pub mod CallerLemmas
-mod Cut
 mod Growing
 mod Links
 mod Marks

@@ -24,7 +24,7 @@ resolve-same (e ∷ later) t (suc k) d h =
     let apart = All-get_or (λ next. (next.0 ≢ e.0) × (next.1 ≢ e.0)) later k d (omega arith) t.0 in
     rw (ne_eqb (get_or later k d).0 e.0 apart.0, ne_eqb (get_or later k d).1 e.0 apart.1) (resolve-same later t.1 k d (omega arith))
 
--- a node that stands in no equation on the left, and on no right side, is where no other node is led to
+-- to a node that occurs on neither side of an equation no other node leads
 pub resolve-avoids : (bound : List (ℕ × ℕ)) (n x : ℕ) → n ≢ x → All (λ next. (next.0 ≢ x) × (next.1 ≢ x)) bound → resolve bound n ≢ x
 resolve-avoids [] n x ne h = ne
 resolve-avoids (e ∷ later) n x ne h =

@@ -163,7 +163,7 @@ module _ (system : System) (sound : IsSystem system) where
         | inr (inr e) ↦ absurd (none-some (at_label label) (rw e at there))
       ]
 
-  -- a label that the graph shows stands in the system
+  -- a label that the graph shows is one of the system
   abbrev StandsIn : Label → Type 0
   StandsIn label = (m : ℕ) × (label_of system.nodes m ≡ Some label)
 

@@ -36,7 +36,7 @@ number-of (Tup arity) = 0
 pub name-of : (a b : ℕ) → constant a ≡ constant b → a ≡ b
 name-of a b e = ap number-of e
 
--- a labelled node stands in the list
+-- a labelled node is one of the list
 pub label-within : (nodes : List Node) (n : ℕ) (label : Label) → label_of nodes n ≡ Some label → n < length nodes
 label-within nodes n label e = go (cases_lt n (length nodes))
   where
@@ -44,7 +44,7 @@ label-within nodes n label e = go (cases_lt n (length nodes))
     go (inl h) = h
     go (inr h) = absurd (none-some label (ap (λ (m : Node). m.label) (sym (get_or_past nodes n free_leaf h)) ∙ e))
 
--- what stands at a kid's path
+-- what a kid's tree shows
 pub at-kid : (g : List Node) (path : List ℕ) (o : Option ℕ)
     → option_map (shown_at g) (option_and_then (λ kid. end_of g kid path) o) ≡ option_and_then (λ kid. at g kid path) o
 at-kid g path None = refl
@@ -213,7 +213,7 @@ module _ (system : System) (sound : IsSystem system) (names : ℕ → ℕ) (new 
         | inr (aw, ae) ↦ let be = slice_get_past ms place (omega arith) in rw (ae, be) refl
       ]
 
-  -- by what stands at the ends of the links
+  -- by the labels at the ends of the links
   by_ends : (path : List ℕ)
       → ((label : Label) (ks ms : List ℕ)
       → All (λ kid. kid < length system.nodes) ks → All (λ kid. kid < length system.nodes) ms

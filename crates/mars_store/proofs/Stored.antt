@@ -8,7 +8,7 @@ use Rattle.mars_tree.specs.declared.label.Label.{Label}
 use Rattle.mars_tree.specs.Graph.{Node, IsNode, IsGraph, label_of, kids_of, free_leaf}
 use Rattle.mars_store.specs.declared.mark.Mark.{Mark}
 use Rattle.mars_store.specs.System.{System, IsSystem, resolve, IsTriangular, IsUnbound, IsLink, IsMark, equation_of, linked, with_node, undone, rank, rank_of}
-use Rattle.mars_store.specs.Links.{target_of, IsStored}
+use Rattle.mars_store.specs.LinksInside.{target_of, IsStored}
 use Rattle.mars_store.proofs.Links.{leaf_node, link-moved, triangular-push, All-front, All-last, resolve-unbound, resolve-same, resolve-last}
 use Rattle.mars_store.proofs.Growing.{system-node}
 
@@ -26,7 +26,7 @@ target_of-self (e ∷ later) n ne p = go (target_of-self later n (All-tail (λ e
     go rest (inl q) = absurd (All-head (λ e. e.1 ≢ e.0) e later ne (rw (eq-eqb n e.0 q) at p ∙ q))
     go rest (inr q) = All-cons (λ equation. equation.0 ≢ n) e later (λ r. q (sym r)) (rest (rw (ne_eqb n e.0 q) at p))
 
--- what a node is bound to stands in an equation
+-- what a node is bound to occurs in an equation
 pub target_of-place : (bound : List (ℕ × ℕ)) (n : ℕ) → target_of bound n ≢ n → (k : ℕ) × (k < length bound) × (get_or bound k (0, 0) ≡ (n, target_of bound n))
 target_of-place [] n h = absurd (h refl)
 target_of-place (e ∷ later) n h = go (target_of-place later n) (cases_eq n e.0)
@@ -241,7 +241,7 @@ stored-linked_view nodes links next bound more system x y view st =
       rw q refl,
     ))
 
--- one equation is taken back
+-- one equation is undone
 pub undo-step : (nodes : List Node) (links : List ℕ) (trail rest : List (ℕ × ℕ)) (x y k : ℕ)
     → IsStored nodes links trail → trail ≡ rest ++ (x, y) ∷ [] → k ≤ length rest
     → IsStored nodes (set links x x) rest × (take k rest ≡ take k trail)

@@ -7,11 +7,11 @@ use Rattle.mars_store.specs.Valuation.{Valuation, value, Agree}
 use Rattle.mars_store.specs.System.{System, IsSystem, resolve}
 use Rattle.mars_store.specs.Solutions.{InSol, plain, AreNew}
 
--- in every solution the label stands in the node's tree at the end of the path
+-- in every solution the node's tree shows the label at the end of the path
 abbrev pub IsForced : System → ℕ → List ℕ → Label → Type 0
 IsForced system n path label = (v : Valuation) → InSol system v → value v n path ≡ Some (at_label label)
 
--- no label stands there in every solution
+-- no label is shown there in every solution
 abbrev pub IsUnforced : System → ℕ → List ℕ → Type 0
 IsUnforced system n path = (label : Label) → IsForced system n path label → ⊥
 
@@ -42,7 +42,7 @@ abbrev pub unused : List Node → ℕ
 unused [] = 0
 unused (node ∷ nodes) = max (past node.label) (unused nodes)
 
--- names that stand nowhere in a system
+-- names that occur nowhere in a system
 abbrev pub new_names : System → ℕ → ℕ
 new_names system n = unused system.nodes + n
 
@@ -56,7 +56,7 @@ PlainDecides = (system : System) → IsSystem system → (names : ℕ → ℕ) �
     → (x y : ℕ) → x < length system.nodes → y < length system.nodes
     → Agree (plain system names) x y → IsImplied system x y
 
--- such names are there
+-- there are such names
 abbrev pub NewNames : Type 0
 NewNames = (system : System) → AreNew system (new_names system)
 

@@ -1,8 +1,11 @@
-pub mod Growing
-pub mod Laws
-pub mod Links
-pub mod Marks
-pub mod Shown
+-- Promised: systems, their solutions, and what they force and imply.
 pub mod Solutions
 pub mod System
 pub mod Valuation
+-- Laws: what holds of all solutions, while a system grows, and of marks.
+pub mod Growing
+pub mod Laws
+pub mod Marks
+pub mod Shown
+-- Inside: the code's own steps, promised to nobody.
+pub mod LinksInside

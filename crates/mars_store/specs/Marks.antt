@@ -1,9 +1,9 @@
--- How long a mark serves, and marks that lie within each other.
+-- How long a store can be undone to a mark, and marks within each other.
 use Rattle.std.specs.Prelude.{◌≡◌, ℕ, ◌<◌, ◌≤◌, List, length, slice_index_or, All}
 use Rattle.mars_store.specs.declared.mark.Mark.{Mark}
 use Rattle.mars_store.specs.System.{System, IsSystem, IsMark, Grows, mark_of, undone}
 
--- the inner mark was made no sooner than the outer one
+-- the inner mark tells no smaller sizes than the outer one
 pub record IsWithin (outer inner : Mark) : Type 0 where
   pub nodes : outer.nodes ≤ inner.nodes
   pub bound : outer.bound ≤ inner.bound

@@ -1,4 +1,4 @@
--- The one graph off which all that is known of a system is read.
+-- The one graph that shows all that is known of a system.
 use Rattle.std.specs.Prelude.{◌≡◌, ◌↔◌, ℕ, ◌<◌, List, length, map, Option, Some, None}
 use Rattle.std.specs.List.{range_with_len}
 use Rattle.mars_tree.specs.declared.label.Label.{Label}
@@ -16,7 +16,7 @@ resolved_node system n = record { label = label_of system.nodes n; kids = map (r
 abbrev pub resolved : System → List Node
 resolved system = map (resolved_node system) (range_with_len 0 (length system.nodes))
 
--- what stands in that graph at the end of a path from a node
+-- what that graph shows at the end of a path from a node
 abbrev pub shown : System → ℕ → List ℕ → Option Shown
 shown system n path = at (resolved system) (resolve system.bound n) path
 

@@ -7,7 +7,7 @@ use Rattle.mars_tree.specs.Graph.{Node, Shown, label as at_label, label_of, kids
 use Rattle.mars_store.specs.Valuation.{Valuation, value, Agree, IsValuation}
 use Rattle.mars_store.specs.System.{System, resolve}
 
--- what stands at the end of a path in the tree of a label over kids
+-- what the tree of a label over kids shows at the end of a path
 abbrev pub over : Label → List ℕ → (ℕ → List ℕ → Option Shown) → List ℕ → Option Shown
 over label kids tree [] = Some (at_label label)
 over label kids tree (place ∷ path) = option_and_then (λ kid. tree kid path) (slice_get kids place)
@@ -42,7 +42,7 @@ plain system names = record {
   nodes = range_with_len 0 (length system.nodes);
 }
 
--- a name for each variable that stands nowhere in the system, a different one for each
+-- a name for each variable that occurs nowhere in the system, a different one for each
 pub record AreNew (system : System) (names : ℕ → ℕ) : Type 0 where
   pub new : (n m : ℕ) → label_of system.nodes m ≢ Some (constant (names n))
   pub different : (n m : ℕ) → names n ≡ names m → n ≡ m

@@ -1,4 +1,4 @@
--- Systems of equations: what a store of nodes and bindings stands for.
+-- Systems of equations, as which a store of nodes and bindings is seen.
 use Rattle.std.specs.Prelude.{◌≡◌, ◌≢◌, ℕ, ◌+◌, ◌<◌, ◌≤◌, List, [], ◌∷◌, ◌++◌, length, take, slice_index_or, All, Option, Some, None, if◌then◌else◌, ◌==◌, nat_lt}
 use Rattle.mars_tree.specs.declared.label.Label.{Label}
 use Rattle.mars_tree.specs.Graph.{Node, IsNode, label_of, free_leaf}
@@ -24,6 +24,7 @@ abbrev pub rank_of : Option Label → ℕ → ℕ
 rank_of (Some label) n = 0
 rank_of None n = n + 1
 
+-- the rank of a node by its number
 abbrev pub rank : List Node → ℕ → ℕ
 rank nodes n = rank_of (label_of nodes n) n
 
@@ -38,7 +39,7 @@ pub record IsLink (nodes : List Node) (equation : ℕ × ℕ) : Type 0 where
   pub inside : equation.1 < length nodes
   pub falls : rank nodes equation.1 < rank nodes equation.0
 
--- a variable that was bound doesn't stand in later equations
+-- a variable that was bound doesn't occur in later equations
 abbrev pub IsTriangular : List (ℕ × ℕ) → Type 0
 IsTriangular [] = Unit {0}
 IsTriangular (equation ∷ later) =
@@ -67,17 +68,18 @@ with_node system node = record system { nodes = system.nodes ++ node ∷ [] }
 abbrev pub mark_of : System → Mark
 mark_of system = record { nodes = length system.nodes; bound = length system.bound }
 
--- the system as it was when the mark was made
+-- the first nodes and equations, as many as the mark tells
 abbrev pub undone : System → Mark → System
 undone system mark = record { nodes = take mark.nodes system.nodes; bound = take mark.bound system.bound }
 
--- the mark was made by this system, which wasn't undone past it
+-- the system can be cut to the sizes that the mark tells: it has at least so many nodes and equations, and the first
+-- equations are of the first nodes
 pub record IsMark (system : System) (mark : Mark) : Type 0 where
   pub nodes : mark.nodes ≤ length system.nodes
   pub bound : mark.bound ≤ length system.bound
   pub inside : All (λ equation. (equation.0 < mark.nodes) × (equation.1 < mark.nodes)) (take mark.bound system.bound)
 
--- nodes and equations were added, behind those that were there
+-- nodes and equations were added, after those that were there
 pub record Grows (old new : System) : Type 0 where
   pub more_nodes : length old.nodes ≤ length new.nodes
   pub nodes : take (length old.nodes) new.nodes ≡ old.nodes

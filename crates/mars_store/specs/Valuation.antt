@@ -7,11 +7,11 @@ pub record Valuation : Type 0 where
   pub graph : List Node
   pub nodes : List ℕ
 
--- what stands in the tree of a variable at the end of a path; a variable without a node has no tree
+-- what the tree of a variable shows at the end of a path; a variable without a node has no tree
 abbrev pub value : Valuation → ℕ → List ℕ → Option Shown
 value v x path = option_and_then (λ n. at v.graph n path) (slice_get v.nodes x)
 
--- the trees of two variables are the same: along every path the same stands at its end
+-- the trees of two variables are the same: they show the same at the end of every path
 pub record Agree (v : Valuation) (x y : ℕ) : Type 0 where
   pub along : (path : List ℕ) → value v x path ≡ value v y path
 

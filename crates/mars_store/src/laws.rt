@@ -1,4 +1,4 @@
-//! What holds of all solutions of a system, by its one plain valuation: the crates above rest on these laws.
+//! What holds of all solutions of a system. The crates above rest on these laws.
 ghost use Rattle.mars_store.specs.Growing.{EquationSolved, NodeSystem, NodeSolved, NodeLast, NodeContinued, OlderSolved, LargerSolved, TreesStay};
 ghost use Rattle.mars_store.specs.Laws.{PlainSolves, PlainDecides, NewNames, FreeUnforced, DifsIndependent};
 ghost use Rattle.mars_store.specs.Marks.{MarkMade, MarkKept, MarksNest};
@@ -17,7 +17,7 @@ pub fn plain_decides()
     ensures independent { DifsIndependent }
 {}
 
-/// Labels are forced, and places are there, exactly as the one graph of a system shows.
+/// A label is forced, and a place is in every solution, exactly where the one graph of a system shows it.
 pub fn forced_shown()
     ensures labels { LabelsShown }
     ensures leaves { LeavesShown }
@@ -28,7 +28,7 @@ pub fn implied_shown()
     ensures { SameShown }
 {}
 
-/// A mark serves until the store is undone past it, and undoing to an inner mark first changes nothing.
+/// A store can be undone to a mark until it is undone past it, and undoing to an inner mark first changes nothing.
 pub fn marks_nest()
     ensures made { MarkMade }
     ensures kept { MarkKept }

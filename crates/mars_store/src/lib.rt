@@ -4,7 +4,6 @@
 mod laws;
 mod mark;
 mod node_id;
-mod nodes;
 mod store;
 
 pub use laws::{

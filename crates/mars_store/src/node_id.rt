@@ -1,6 +1,7 @@
 //! Numbers of nodes.
 ghost use Rattle.std.specs.Prelude.{◌≡◌};
 
+use mars_tree::NodeNumber;
 use std::marker::Model;
 
 /// A node of a store: its number, counted from 0 in the order of adding. The default is number 0.
@@ -22,6 +23,14 @@ impl NodeId {
     pub fn number(self) -> usize
         ensures { result ≡ self }
     {
+        self.0
+    }
+}
+
+impl NodeNumber for NodeId {
+    ghost number_of = { λ node. node };
+
+    fn node_number(self) -> usize {
         self.0
     }
 }

@@ -1,4 +1,4 @@
-//! A store of nodes and bindings, which stands for a system of equations.
+//! A store of nodes and bindings, seen as a system of equations.
 ghost use Rattle.std.specs.Prelude.{◌≡◌, ◌≢◌, ◌<◌, ◌≤◌, ◌++◌, ◌∷◌, [], length, slice_get, slice_set, Some, None, OnOk, OnErr, IfOk, All, MatchOption};
 ghost use Rattle.mars_tree.specs.Label.{arity_of};
 ghost use Rattle.mars_tree.specs.Graph.{arity_at, label_of, kids_of, labelled, free_leaf};
@@ -7,9 +7,8 @@ ghost use Rattle.mars_store.specs.Laws.{IsForced, IsUnforced};
 
 use crate::mark::Mark;
 use crate::node_id::NodeId;
-use crate::nodes::Nodes;
 use mars_base::NoMemory;
-use mars_tree::Label;
+use mars_tree::{Graph, Label};
 use std::alloc::Global;
 use std::marker::Model;
 
@@ -17,7 +16,7 @@ use std::marker::Model;
 /// A node that isn't bound is linked to itself. At `NoMemory` each call leaves the store as before.
 #[derive(Drop)]
 pub struct Store {
-    nodes: Nodes,
+    nodes: Graph,
     links: Vec<usize>,
     trail: Vec<(usize, usize)>,
 }
@@ -27,7 +26,7 @@ impl Model for Store {
 
     ghost Value = { System };
 
-    ghost use Rattle.mars_store.specs.Links.{IsStored};
+    ghost use Rattle.mars_store.specs.LinksInside.{IsStored};
 
     ghost view = { λ s. record { nodes = s.nodes; bound = s.trail.items } };
 
@@ -40,7 +39,7 @@ impl Store {
         ensures { result ≡ record { nodes = []; bound = [] } }
     {
         Store {
-            nodes: Nodes::new(alloc),
+            nodes: Graph::new(alloc),
             links: Vec::new(alloc),
             trail: Vec::new(alloc),
         }
@@ -75,7 +74,7 @@ impl Store {
     {
         let node = self.links.len();
         self.links.reserve(1)?;
-        self.nodes.push(label, kids)?;
+        self.nodes.add_node(label, kids)?;
         self.links.push_reserved(node);
         Ok(NodeId(node))
     }
@@ -145,7 +144,7 @@ impl Store {
         ensures system { IsSystem self.now }
     {
         let last = self.deref(node);
-        self.nodes.kid(last.0, place)
+        NodeId(self.nodes.kid(last.0, place))
     }
 
     /// The equation at a place of the trail, counted from 0 in the order of binding.

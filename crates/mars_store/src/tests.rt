@@ -1,4 +1,4 @@
-//! What no clause says of a store: each call with ample memory, and marks that lie deep within each other.
+//! What no clause says of a store: each call with ample memory, and marks deep within each other.
 ghost use Rattle.std.specs.Prelude.{◌<◌, ◌≤◌, length, OnOk};
 ghost use Rattle.mars_store.specs.System.{Grows};
 ghost use Rattle.mars_store.specs.Marks.{AreMarks};

@@ -7,7 +7,7 @@ use Rattle.std.specs.Option.{unwrap_or}
 use Rattle.std.proofs.lemmas.Bool.{cases_Bool, cases_eq, false≢true}
 use Rattle.std.proofs.lemmas.Nat.Bits.{bit_at_set_same, bit_at_set_other}
 use Rattle.mars_base.specs.declared.no_memory.NoMemory.{NoMemory}
-use Rattle.mars_unify.specs.Met.{same_pair, Words, IsPair, block_of, word_of, SetsBit, is_set}
+use Rattle.mars_unify.specs.MetInside.{same_pair, Words, IsPair, block_of, word_of, SetsBit, is_set}
 use Rattle.mars_unify.proofs.Lists.{same_pair-refl, same_pair-true}
 
 -- pairs with one block and one place there are the same

@@ -8,7 +8,7 @@ use Rattle.mars_store.specs.Valuation.{Valuation, value}
 use Rattle.mars_store.specs.System.{System, IsSystem, resolve}
 use Rattle.mars_store.specs.Solutions.{InSol}
 use Rattle.mars_store.proofs.CallerLemmas.{label-within, last-labelled}
-use Rattle.mars_unify.specs.Meeting.{SameAt, AreSame, IsCovered, IsSettled, AreAlike, AreMet, IsMeeting, AreKidsMet}
+use Rattle.mars_unify.specs.MeetingInside.{SameAt, AreSame, IsCovered, IsSettled, AreAlike, AreMet, IsMeeting, AreKidsMet}
 use Rattle.mars_unify.specs.Unified.{AreApart}
 use Rattle.mars_unify.proofs.Meetings.{meeting-none, meeting-then, covered-kept}
 

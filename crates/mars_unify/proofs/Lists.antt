@@ -11,7 +11,7 @@ use Rattle.std.proofs.lemmas.Map.Keys.{IsDistinct-push}
 use Rattle.std.proofs.lemmas.Map.Steps.{length-le_from_distinct_below}
 use Rattle.std.proofs.lemmas.Map.Views.{Contains-from_any}
 use Rattle.std.proofs.lemmas.Nat.{mul-add-lt, mod-mul-add, div-mul-add}
-use Rattle.mars_unify.specs.Met.{same_pair, with_pair, Words, IsPair, is_set, IsIndex}
+use Rattle.mars_unify.specs.MetInside.{same_pair, with_pair, Words, IsPair, is_set, IsIndex}
 
 pub same_pair-sym : (p q : ℕ × ℕ) → same_pair p q ≡ same_pair q p
 same_pair-sym p q = ap₂ (λ a b. a && b) (nat_eq_equiv.symm p.0 q.0) (nat_eq_equiv.symm p.1 q.1)

@@ -10,8 +10,8 @@ use Rattle.mars_store.specs.System.{System, IsSystem, IsUnbound, resolve, linked
 use Rattle.mars_store.specs.Solutions.{InSol, over}
 use Rattle.mars_store.specs.Laws.{IsImplied}
 use Rattle.mars_store.proofs.CallerLemmas.{equation_solved, grows-linked, resolve-unbound, solution-last, same-label}
-use Rattle.mars_unify.specs.Met.{with_pair}
-use Rattle.mars_unify.specs.Meeting.{SameAt, AreSame, IsCovered, IsSettled, AreAlike, AreMet, IsMeeting}
+use Rattle.mars_unify.specs.MetInside.{with_pair}
+use Rattle.mars_unify.specs.MeetingInside.{SameAt, AreSame, IsCovered, IsSettled, AreAlike, AreMet, IsMeeting}
 use Rattle.mars_unify.specs.Unified.{AreApart}
 use Rattle.mars_unify.proofs.Lists.{with_pair-front, with_pair-contains, with_pair-All, with_pair-distinct}
 

@@ -9,7 +9,7 @@ use Rattle.mars_store.specs.System.{System, IsSystem, Grows, mark_of}
 use Rattle.mars_store.specs.Solutions.{InSol, plain}
 use Rattle.mars_store.specs.Laws.{IsImplied, new_names}
 use Rattle.mars_store.proofs.CallerLemmas.{plain_solves}
-use Rattle.mars_unify.specs.Meeting.{SameAt, AreSame, IsCovered, IsSettled, AreAlike, AreMet, IsMeeting, IsSolving}
+use Rattle.mars_unify.specs.MeetingInside.{SameAt, AreSame, IsCovered, IsSettled, AreAlike, AreMet, IsMeeting, IsSolving}
 use Rattle.mars_unify.specs.Unified.{Extends, IsSolved, AreApart}
 use Rattle.mars_unify.proofs.Lists.{IsInside, length-pairs, none-distinct}
 use Rattle.mars_unify.proofs.Meetings.{meeting-then, covered-kept, settled-kept}

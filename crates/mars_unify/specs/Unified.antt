@@ -1,4 +1,4 @@
--- What unification says of a system before and after.
+-- What the answers of unification say of the system before and after.
 use Rattle.std.specs.Prelude.{◌≡◌, ℕ, ◌+◌, length, take, Result, Ok, Err}
 use Rattle.mars_base.specs.declared.no_memory.NoMemory.{NoMemory}
 use Rattle.mars_store.specs.Valuation.{Valuation, Agree}

@@ -2,7 +2,7 @@
 //! both numbers go on by equal steps: 64 neighbours there share an entry of a map, which so stays small and near.
 ghost use Rattle.std.specs.Prelude.{◌≡◌, ℕ, ◌<◌, ◌||◌, not, IfOk, OnOk, OnErr};
 ghost use Rattle.std.specs.HashMap.{IsUnchanged};
-ghost use Rattle.mars_unify.specs.Met.{IsPair, SetsBit, same_pair, has_bit, is_set};
+ghost use Rattle.mars_unify.specs.MetInside.{IsPair, SetsBit, same_pair, has_bit, is_set};
 
 use mars_base::NoMemory;
 use mars_store::NodeId;

@@ -1,6 +1,6 @@
 //! Pairs of nodes that are assumed equal, each once.
 ghost use Rattle.std.specs.Prelude.{◌≡◌, ℕ, ◌<◌, ◌≤◌, ◌++◌, ◌∷◌, [], length, slice_index_or, OnOk, OnErr, IfOk};
-ghost use Rattle.mars_unify.specs.Met.{with_pair, IsIndex};
+ghost use Rattle.mars_unify.specs.MetInside.{with_pair, IsIndex};
 
 use crate::bits::{Words, set_bit};
 use mars_base::NoMemory;
@@ -27,7 +27,7 @@ impl Model for Pairs {
     ghost Value = { List (ℕ × ℕ) };
 
     ghost use Rattle.mars_unify.specs.declared.pairs.TheConstants.{FEW};
-    ghost use Rattle.mars_unify.specs.Met.{IsIndex};
+    ghost use Rattle.mars_unify.specs.MetInside.{IsIndex};
 
     ghost view = { λ p. p.list.items };
 

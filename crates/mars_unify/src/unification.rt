@@ -3,7 +3,7 @@ ghost use Rattle.std.specs.Prelude.{◌≡◌, ◌≢◌, ℕ, ◌<◌, ◌↔�
 ghost use Rattle.mars_tree.specs.Graph.{kids_of};
 ghost use Rattle.mars_store.specs.System.{IsSystem, Grows, resolve};
 ghost use Rattle.mars_store.specs.Laws.{IsImplied};
-ghost use Rattle.mars_unify.specs.Meeting.{AreAlike, AreMet, IsMeeting, IsCovered, IsSettled};
+ghost use Rattle.mars_unify.specs.MeetingInside.{AreAlike, AreMet, IsMeeting, IsCovered, IsSettled};
 ghost use Rattle.mars_unify.specs.Unified.{OnYes, OnNo, Extends, IsSolved, AreApart};
 
 use crate::pairs::Pairs;

@@ -1,6 +1,6 @@
 use Rattle.std.proofs.Common.{rules, subst, Some, ◌*◌, ◌^◌, ◌%◌, ◌≡◌}
 use Rattle.std.specs.HashMap.{Updates}
-use Rattle.mars_unify.specs.Met.{same_pair}
+use Rattle.mars_unify.specs.MetInside.{same_pair}
 use Rattle.mars_unify.proofs.Blocks.{first-bit}
 use Rattle.mars_unify.proofs.bits.set_at.Goals as goal
 

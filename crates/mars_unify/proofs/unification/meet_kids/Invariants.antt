@@ -1,5 +1,5 @@
 use Rattle.mars_store.specs.System.{Grows}
-use Rattle.mars_unify.specs.Meeting.{AreKidsMet}
+use Rattle.mars_unify.specs.MeetingInside.{AreKidsMet}
 use Rattle.mars_unify.proofs.unification.meet_kids.Given as goal
 
 -- the kids below this place were met

@@ -1,6 +1,6 @@
 use Rattle.std.proofs.Common.{◌*◌, ◌-◌, length}
 use Rattle.mars_store.specs.System.{Grows}
-use Rattle.mars_unify.specs.Meeting.{IsSolving}
+use Rattle.mars_unify.specs.MeetingInside.{IsSolving}
 use Rattle.mars_unify.proofs.unification.solve.Given as goal
 
 -- the pairs below this place are settled

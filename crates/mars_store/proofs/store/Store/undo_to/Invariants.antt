@@ -1,5 +1,5 @@
 use Rattle.std.proofs.Common.{◌≡◌, ◌≤◌, length, take}
-use Rattle.mars_store.specs.Links.{IsStored}
+use Rattle.mars_store.specs.LinksInside.{IsStored}
 use Rattle.mars_store.proofs.store.Store.undo_to.Given as goal
 
 -- the equations up to the mark stay

@@ -1,4 +1,4 @@
--- How a store keeps its equations: each node's link, and the order in which they came.
+-- Inside: how a store keeps its equations, as a link for each node and a list in the order in which they came.
 use Rattle.std.specs.Prelude.{◌≡◌, ℕ, ◌<◌, List, [], ◌∷◌, length, slice_index, if◌then◌else◌, ◌==◌}
 use Rattle.mars_tree.specs.Graph.{Node}
 use Rattle.mars_store.specs.System.{IsSystem}

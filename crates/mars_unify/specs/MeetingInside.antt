@@ -6,7 +6,7 @@ use Rattle.mars_tree.specs.Graph.{Node, label_of, kids_of}
 use Rattle.mars_store.specs.Valuation.{Valuation, value, Agree}
 use Rattle.mars_store.specs.System.{System, IsSystem}
 use Rattle.mars_store.specs.Solutions.{InSol}
-use Rattle.mars_unify.specs.Met.{same_pair}
+use Rattle.mars_unify.specs.MetInside.{same_pair}
 
 -- the trees of a pair show the same at the end of a path
 abbrev pub SameAt : Valuation → List ℕ → ℕ × ℕ → Type 0
