@@ -10,7 +10,7 @@ pub use Rattle.mars_store.proofs.Links.{leaf_node, resolve-unbound, resolve-same
 pub use Rattle.mars_store.proofs.Stored.{not-itself}
 pub use Rattle.mars_store.proofs.Shown.{end-inside}
 -- systems that grow
-pub use Rattle.mars_store.proofs.Marks.{grows-refl, grows-trans, grows-linked, grows-node}
+pub use Rattle.mars_store.proofs.Marks.{grows-refl, grows-trans, grows-linked, grows-node, marks-push, marks-kept, marks-pop}
 pub use Rattle.mars_store.proofs.Growing.{front-node}
 -- labels of nodes
 pub use Rattle.mars_store.proofs.Solving.{cases-label, same-label, name-of, label-within, last-labelled, at-labelled}

@@ -13,6 +13,3 @@ pub use laws::{
 pub use mark::Mark;
 pub use node_id::NodeId;
 pub use store::Store;
-
-#[cfg(test)]
-mod tests;

@@ -5,8 +5,6 @@ mod laws;
 mod rows;
 mod search;
 mod table;
-#[cfg(test)]
-mod tests;
 
 pub use laws::{
     examples, find_means, intern_keeps_met, intern_keeps_sound, intern_keeps_trees, intern_means,

@@ -6,6 +6,3 @@ mod pairs;
 mod unification;
 
 pub use unification::{Unified, unify};
-
-#[cfg(test)]
-mod tests;
