@@ -21,6 +21,7 @@ use Rattle.mars_read.proofs.Naming.{Grows, grows-all, known-all-append, known-le
 use Rattle.mars_read.proofs.Complete.{word-runs, puts-run}
 use Rattle.mars_read.proofs.Refused.{no-command-more, no-word, not-done, no-session-name}
 use Rattle.mars_read.proofs.Standing.{defines-nothing}
+use Rattle.mars_read.proofs.LimitsAre.{command_limit}
 
 shorter : {tokens rest : List Token} (first : Token) → tokens ≡ first ∷ rest → length tokens ≡ length rest + 1
 shorter {tokens} {rest} first e = let h : length tokens ≡ length (first ∷ rest) = ap length e in omega arith
@@ -31,7 +32,7 @@ known-room names known text e = let h : length known ≡ length (with_text text 
 listed : (names known : List (List ℕ)) (text : List ℕ) (id : NameId) → known ≡ with_text text names → id.0 ≡ name_number text names → IsNameOf known text id
 listed names known text id e is = subst (λ (l : List (List ℕ)). IsNameOf l text id) (sym e) (name-listed text names id.0 is)
 
--- behind the TERM of a TREE empty_built is defined yet
+-- after the TERM of a TREE nothing is defined yet
 pub nothing-defined : (inner after : List Token) (known : List (List ℕ)) {middle : List (List ℕ)} {b : Built} {node : ℕ} → ReadsTerm (view inner known empty_built) (view after middle b) node → Defines middle b []
 nothing-defined inner after known term = term.keeps.defines [] (defines-nothing known)
 
@@ -116,7 +117,7 @@ module _ {tokens rest : List Token} {names known : List (List ℕ)} {done : List
         split = so_far.split ∙ ap (λ l. so_far.front ++ l) (word ∙ ap (λ l. token.Name (codes "put") ∷ l) reads.split)
             ∙ sym (append_assoc so_far.front (token.Name (codes "put") ∷ reads.front) after);
         are = puts-push so_far.are reads.is;
-        few = omega (arith, as-long, length-append so_far.written (reads.written ∷ []));
+        few = omega (arith, command_limit, as-long, length-append so_far.written (reads.written ∷ []));
         names_are = reads.names_are ∙ ap (λ l. known_all (reads.written.name ∷ names_of_tree reads.written.tree) l) so_far.names_are
             ∙ sym (known-all-append (names_of_puts so_far.written) (reads.written.name ∷ names_of_tree reads.written.tree) names)
             ∙ ap (λ l. known_all l names) (sym (names-push so_far.written reads.written));
@@ -129,7 +130,7 @@ module _ {tokens rest : List Token} {names known : List (List ℕ)} {done : List
   runs-on s = ap (λ l. run l (Commands s [])) so_far.split ∙ puts-run so_far.are rest s [] (omega (arith, so_far.few))
 
   pub too-many : IsNotNext token.Ends rest → 256 ≤ length done → (s : List ℕ) → run tokens (Commands s []) ≡ None
-  too-many open_ many s = runs-on s ∙ no-command-more rest open_ s so_far.written (omega (arith, as-long))
+  too-many open_ many s = runs-on s ∙ no-command-more rest open_ s so_far.written (omega (arith, command_limit, as-long))
 
   pub other-command : {now : List Token} → IsNotNext token.Ends rest → now ≡ rest → IsNotNext (token.Name (codes "put")) now → (s : List ℕ) → run tokens (Commands s []) ≡ None
   other-command open_ same apart s =
@@ -141,7 +142,7 @@ module _ {tokens rest : List Token} {names known : List (List ℕ)} {done : List
   pub put-refused : {inner : List Token} → length done < 256 → rest ≡ token.Name (codes "put") ∷ inner →
       ((s : List ℕ) (ps : List WrittenPut) → run inner (Puts s ps) ≡ None) → (s : List ℕ) → run tokens (Commands s []) ≡ None
   put-refused {inner} few word refused s = runs-on s ∙ ap (λ l. run l (Commands s so_far.written)) word
-      ∙ word-runs inner s so_far.written (omega (arith, as-long)) ∙ refused s so_far.written
+      ∙ word-runs inner s so_far.written (omega (arith, command_limit, as-long)) ∙ refused s so_far.written
 
 -- a session from its name and its commands
 module _ {tokens a : List Token} (begins : tokens ≡ token.Session ∷ a) where

@@ -8,8 +8,9 @@ use Rattle.mars_read.specs.Written.{Written, Applied, Writtens, none, more, argu
 use Rattle.mars_read.specs.Grammar.{IsTerm, variable, name, applied, AreTerms, one, others, definition, AreDefinitions, last, further, is_among, DefinesOnce, IsTreeForm, plain, defined, IsPut, put, ArePuts, no_puts, puts, IsScript, empty, session}
 use Rattle.mars_read.specs.Machine.{Head, Stack, InTree, InDefinition, InRow, ReaderState, Starts, Commands, Puts, Wants, Bare, Has, Defining, row_with, ended, with_definition, may_define, is_applied, closes, step, run}
 use Rattle.mars_read.specs.Reading.{IsNotNext}
+use Rattle.mars_read.specs.declared.limits.TheConstants.{ARGUMENT_LIMIT, COMMAND_LIMIT}
 
--- `ts ++ (sign ∷ [])` and what is behind it
+-- `ts ++ (sign ∷ [])` and what is after it
 apart : (ts : List Token) (sign : Token) (x : List Token) → (ts ++ (sign ∷ [])) ++ x ≡ ts ++ (sign ∷ x)
 apart ts sign x = append_assoc ts (sign ∷ []) x
 
@@ -25,10 +26,10 @@ bare-alone [] alone f k = refl
 bare-alone (token.Open ∷ x) alone f k = absurd (alone refl)
 bare-alone (_ ∷ x) alone f k = refl
 
-pub comma-runs : (t : Written) (f : List ℕ) (front : List Written) (k : Stack) (x : List Token) → length front < 15 →
+pub comma-runs : (t : Written) (f : List ℕ) (front : List Written) (k : Stack) (x : List Token) → length front + 1 < ARGUMENT_LIMIT →
     run (token.Comma ∷ x) (Has t (InRow f front k)) ≡ run x (Wants (InRow f (front ++ t ∷ []) k))
 unfolding run step closes
-comma-runs t f front k x few = when (nat_lt (length front) 15) (Wants (InRow f (front ++ t ∷ []) k)) x (grind (arith, nat_tests))
+comma-runs t f front k x few = when (nat_lt (length front + 1) ARGUMENT_LIMIT) (Wants (InRow f (front ++ t ∷ []) k)) x (grind (arith, nat_tests))
 
 pub close-runs : (t : Written) (f : List ℕ) (front : List Written) (k : Stack) (x : List Token) →
     run (token.Close ∷ x) (Has t (InRow f front k)) ≡ run x (Has (Applied f (row_with front (more t none))) k)
@@ -52,7 +53,7 @@ mutual
   term-runs (applied {f} {ts} {terms} are few) x k alone =
       ap (λ l. run l (Wants (InRow f [] k))) (apart ts token.Close x) ∙ terms-run are f [] x k (omega arith)
 
-  pub terms-run : {ts : List Token} {terms : Writtens} → AreTerms ts terms → (f : List ℕ) (front : List Written) (x : List Token) (k : Stack) → length front + argument_count terms ≤ 16 →
+  pub terms-run : {ts : List Token} {terms : Writtens} → AreTerms ts terms → (f : List ℕ) (front : List Written) (x : List Token) (k : Stack) → length front + argument_count terms ≤ ARGUMENT_LIMIT →
       run (ts ++ (token.Close ∷ x)) (Wants (InRow f front k)) ≡ run x (Has (Applied f (row_with front terms)) k)
   terms-run (one {ts} {t} is) f front x k few = term-runs is (token.Close ∷ x) (InRow f front k) (λ e. cc) ∙ close-runs t f front k x
   terms-run (others {ts} {us} {t} {terms} is are) f front x k few =
@@ -103,11 +104,11 @@ tree-runs (defined {ts} {us} {t} {ds} is are new) h x =
     ∙ term-runs is (token.Where ∷ (us ++ (token.Semicolon ∷ x))) (InTree h) (λ e. cc)
     ∙ where-runs h t (us ++ (token.Semicolon ∷ x)) ∙ definitions-run are h t [] x new
 
-pub word-runs : (x : List Token) (s : List ℕ) (ps : List WrittenPut) → length ps < 256 → run (token.Name (codes "put") ∷ x) (Commands s ps) ≡ run x (Puts s ps)
+pub word-runs : (x : List Token) (s : List ℕ) (ps : List WrittenPut) → length ps < COMMAND_LIMIT → run (token.Name (codes "put") ∷ x) (Commands s ps) ≡ run x (Puts s ps)
 unfolding run step
-word-runs x s ps few = when (nat_lt (length ps) 256) (Puts s ps) x (grind (arith, nat_tests))
+word-runs x s ps few = when (nat_lt (length ps) COMMAND_LIMIT) (Puts s ps) x (grind (arith, nat_tests))
 
-pub put-runs : {ts : List Token} {p : WrittenPut} → IsPut ts p → (x : List Token) (s : List ℕ) (ps : List WrittenPut) → length ps < 256 →
+pub put-runs : {ts : List Token} {p : WrittenPut} → IsPut ts p → (x : List Token) (s : List ℕ) (ps : List WrittenPut) → length ps < COMMAND_LIMIT →
     run (ts ++ x) (Commands s ps) ≡ run x (Commands s (ps ++ p ∷ []))
 unfolding run step
 put-runs (put {n} {ts} {tree} is) x s ps few =
@@ -115,7 +116,7 @@ put-runs (put {n} {ts} {tree} is) x s ps few =
     ∙ ap (λ l. run l (Wants (InTree (record { session = s; puts = ps; name = n })))) (apart ts token.Semicolon x)
     ∙ tree-runs is (record { session = s; puts = ps; name = n }) x
 
-pub puts-run : {ts : List Token} {qs : List WrittenPut} → ArePuts ts qs → (x : List Token) (s : List ℕ) (ps : List WrittenPut) → length ps + length qs ≤ 256 →
+pub puts-run : {ts : List Token} {qs : List WrittenPut} → ArePuts ts qs → (x : List Token) (s : List ℕ) (ps : List WrittenPut) → length ps + length qs ≤ COMMAND_LIMIT →
     run (ts ++ x) (Commands s ps) ≡ run x (Commands s (ps ++ qs))
 puts-run no_puts x s ps few = ap (λ l. run x (Commands s l)) (simp append-nil)
 puts-run (puts {ts} {us} {p} {ps = qs} is are) x s ps few =

@@ -1,4 +1,4 @@
--- Definitions while they are read: one, those in front of it, and what stands behind a TERM.
+-- Definitions while they are read: one, those before it, and what follows a TERM.
 use Rattle.std.proofs.Common.{◌≡◌, ℕ, ◌+◌, List, [], ◌∷◌, ◌++◌, length, refl, ap, sym, ◌∙◌, subst, None, All, Bool, true, false, append_assoc, append-nil, arith}
 use Rattle.std.specs.Prelude.{◌||◌, if◌then◌else◌}
 use Rattle.std.specs.Str.{bytes_eq}
@@ -133,7 +133,7 @@ names-push (c ∷ ds) d = ap (λ l. names_in c.term ++ l) (names-push ds d) ∙ 
 applied-of : {ts : List Token} {d : Definition} → IsDefinition ts d → is_applied d.term ≡ true
 applied-of (definition is) = refl
 
--- a definition behind those in front
+-- a definition after those before it
 module _ (old now next : View) (front : OpenDefinitions old now) (one : ReadsDefinition now next) where
   runs-to : (h : Head) (t : Written) → run old.tokens (Defining h t []) ≡ run next.tokens (Has one.written.term (InDefinition h t front.written one.written.variable))
   runs-to h t = front.runs h t ∙ one.runs h t front.written
@@ -200,7 +200,7 @@ pub definitions-refused : (old now : View) → OpenDefinitions old now → ((h :
     (h : Head) (t : Written) → run old.tokens (Defining h t []) ≡ None
 definitions-refused old now front refused h t = front.runs h t ∙ refused h t front.written front.defines
 
--- behind a TERM
+-- after a TERM
 pub rest-plain : (tokens now rest : List Token) (names : List (List ℕ)) (b : Built) → now ≡ tokens → now ≡ token.Semicolon ∷ rest → Defines names b [] → ReadsRest (view tokens names b) (view rest names b)
 rest-plain tokens now rest names b same e d =
     let behind : tokens ≡ token.Semicolon ∷ rest = sym same ∙ e in

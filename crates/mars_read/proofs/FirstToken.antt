@@ -1,4 +1,4 @@
--- The longest token in front, by its first byte.
+-- The longest token with which bytes begin, by its first byte.
 use Rattle.std.proofs.Common.{◌≡◌, ℕ, suc, ◌+◌, ◌≤◌, List, [], ◌∷◌, ◌++◌, length, take, drop, refl, sym, ◌∙◌, Bool, true, false, cond, arith, take-append-drop, length-take-le}
 use Rattle.std.specs.Prelude.{◌&&◌, ◌||◌}
 use Rattle.std.specs.List.{list_all, prefix_len}
@@ -10,7 +10,7 @@ use Rattle.mars_read.specs.Lexed.{is_token, IsLongest}
 one-more : (n : ℕ) → 1 + n ≡ suc n
 one-more n = omega arith
 
--- as many bytes in front as pass do
+-- as many bytes pass, from the first on
 pub prefix-all : (p : ℕ → Bool) (bytes : List ℕ) → list_all p (take (prefix_len p bytes) bytes) ≡ true
 prefix-all p [] = refl
 prefix-all p (b ∷ bytes) = at (p b) refl (prefix-all p bytes)

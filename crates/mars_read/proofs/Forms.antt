@@ -1,4 +1,4 @@
--- Texts of the first form by their tokens.
+-- Inputs by their tokens.
 use Rattle.std.proofs.Common.{◌≡◌, ℕ, ◌≤◌, ◌<◌, ◌^◌, List, [], ◌∷◌, ◌++◌, length, Some, None, true, ap, sym, ◌∙◌, subst, arith, length-append}
 use Rattle.std.proofs.lemmas.Bool.{false≢true}
 use Rattle.mars_read.specs.declared.first.First.{First}
@@ -11,6 +11,7 @@ use Rattle.mars_read.specs.First.{IsReadFrom, IsNoFirstForm, OneScript, nodes_in
 use Rattle.mars_read.specs.Reading.{ReadsScript}
 use Rattle.mars_read.proofs.Complete.{script-runs}
 use Rattle.mars_read.proofs.Steps.{one-token-list}
+use Rattle.mars_read.proofs.LimitsAre.{input_limit}
 
 not-empty : (text : List ℕ) → is_token text ≡ true → 1 ≤ length text
 not-empty [] e = absurd (false≢true e)
@@ -44,14 +45,14 @@ pub no-tokens : (bytes : List ℕ) → IsNotLexed bytes → IsNoFirstForm bytes
 no-tokens bytes none_lexed script form = none_lexed form.tokens form.lexed
 
 pub too-long : (bytes : List ℕ) → 1048576 < length bytes → IsNoFirstForm bytes
-too-long bytes long script form = absurd (omega (arith, form.size))
+too-long bytes long script form = absurd (omega (arith, form.size, input_limit))
 
 -- what was read from the tokens was read from the bytes
 module _ (bytes : List ℕ) (tokens : List Token) (lexed : IsLexed bytes tokens) where
   pub read-from : (first : First) → length bytes ≤ 1048576 → ReadsScript tokens first → IsReadFrom bytes first
   read-from first short read = record {
     script = read.written;
-    form = record { size = short; tokens = tokens; lexed = lexed; is = read.is };
+    form = record { size = omega (arith, short, input_limit); tokens = tokens; lexed = lexed; is = read.is };
     says = read.stands;
   }
 

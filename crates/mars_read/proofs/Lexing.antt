@@ -10,6 +10,8 @@ use Rattle.mars_read.specs.Bytes.{is_letter, is_blank, is_sign}
 use Rattle.mars_read.specs.Token.{Token, Rules, Session, Ends, Where, Name, Variable, Odd, Open, Close, Comma, Semicolon, Equals, token_of, word_token, sign_of, spelled}
 use Rattle.mars_read.specs.Lexed.{is_token, IsLongest, Begins, IsShort}
 use Rattle.mars_read.proofs.FirstToken.{other-token, one-sign-length, prefix-all}
+use Rattle.mars_read.specs.declared.limits.TheConstants.{WORD_LIMIT}
+use Rattle.mars_read.proofs.LimitsAre.{word_limit}
 
 -- a token begins with no blank
 pub token-first : (b : ℕ) (u : List ℕ) → is_token (b ∷ u) ≡ true → is_blank b ≡ false
@@ -36,7 +38,7 @@ blanks-length : (blanks text rest : List ℕ) → list_all is_blank blanks ≡ t
 blanks-length blanks [] rest e t = absurd (cc)
 blanks-length blanks (b ∷ u) rest e t = prefix-blanks blanks b (u ++ rest) e (token-first b u t)
 
--- what stands behind the blanks
+-- what comes after the blanks
 pub begins-behind : (bytes rest : List ℕ) (t : Token) (b : Begins bytes t rest) → drop (prefix_len is_blank bytes) bytes ≡ b.text ++ rest
 begins-behind bytes rest t b =
     let count : prefix_len is_blank bytes ≡ length b.blanks = ap (λ l. prefix_len is_blank l) b.whole ∙ blanks-length b.blanks b.text rest b.blank b.longest.token in
@@ -56,13 +58,13 @@ longest-one x r y s p q e =
       rest = sym (drop-append_seam x r) ∙ ap (λ l. drop (length x) l) e ∙ ap (λ k. drop k (y ++ s)) size ∙ drop-append_seam y s;
     }
 
--- one token stands in front
+-- one token comes first
 pub begins-one : (bytes r s : List ℕ) (a b : Token) → Begins bytes a r → Begins bytes b s → Same a b r s
 begins-one bytes r s a b p q =
     let same = longest-one p.text r q.text s p.longest q.longest (sym (begins-behind bytes r a p) ∙ begins-behind bytes s b q) in
     record { token = p.named ∙ same.token ∙ sym q.named; rest = same.rest }
 
--- the longest token behind the blanks stands in front
+-- the longest token after the blanks comes first
 pub begins-of : (bytes : List ℕ) (n k : ℕ) → n ≡ prefix_len is_blank bytes → IsLongest (take k (drop n bytes)) (drop k (drop n bytes)) → Begins bytes (token_of (take k (drop n bytes))) (drop k (drop n bytes))
 begins-of bytes n k is longest = record {
   blanks = take n bytes;
@@ -73,12 +75,12 @@ begins-of bytes n k is longest = record {
   named = refl;
 }
 
-spelled-short : (v w : Bool) (text : List ℕ) → length text ≤ 64 → IsShort (if v then Name text else (if w then Variable text else Odd text))
+spelled-short : (v w : Bool) (text : List ℕ) → length text ≤ WORD_LIMIT → IsShort (if v then Name text else (if w then Variable text else Odd text))
 spelled-short true w text le = le
 spelled-short false true text le = le
 spelled-short false false text le = le
 
-spelled-length : (v w : Bool) (text : List ℕ) → IsShort (if v then Name text else (if w then Variable text else Odd text)) → length text ≤ 64
+spelled-length : (v w : Bool) (text : List ℕ) → IsShort (if v then Name text else (if w then Variable text else Odd text)) → length text ≤ WORD_LIMIT
 spelled-length true w text le = le
 spelled-length false true text le = le
 spelled-length false false text le = le
@@ -90,18 +92,18 @@ word-short false false true d t s = tt
 word-short false false false true t s = tt
 word-short false false false false t s = s
 
-word-length : (a b c d : Bool) (t : Token) (text : List ℕ) → (a ≡ true → length text ≤ 64) → (b ≡ true → length text ≤ 64) → (c ≡ true → length text ≤ 64) → (d ≡ true → length text ≤ 64) → (IsShort t → length text ≤ 64) →
-    IsShort (if a then Rules else (if b then Session else (if c then Ends else (if d then Where else t)))) → length text ≤ 64
+word-length : (a b c d : Bool) (t : Token) (text : List ℕ) → (a ≡ true → length text ≤ WORD_LIMIT) → (b ≡ true → length text ≤ WORD_LIMIT) → (c ≡ true → length text ≤ WORD_LIMIT) → (d ≡ true → length text ≤ WORD_LIMIT) → (IsShort t → length text ≤ WORD_LIMIT) →
+    IsShort (if a then Rules else (if b then Session else (if c then Ends else (if d then Where else t)))) → length text ≤ WORD_LIMIT
 word-length true b c d t text p q r s u z = p refl
 word-length false true c d t text p q r s u z = q refl
 word-length false false true d t text p q r s u z = r refl
 word-length false false false true t text p q r s u z = s refl
 word-length false false false false t text p q r s u z = u z
 
-reserved-length : (text word : List ℕ) → length word ≤ 64 → bytes_eq text word ≡ true → length text ≤ 64
+reserved-length : (text word : List ℕ) → length word ≤ WORD_LIMIT → bytes_eq text word ≡ true → length text ≤ WORD_LIMIT
 reserved-length text word le e = let same : text ≡ word = (bytes_eq-Decides text word).0 e in rw same le
 
-sign-short : (a b c d f : Bool) (text : List ℕ) → length text ≤ 64 → IsShort (if a then Open else (if b then Close else (if c then Comma else (if d then Semicolon else (if f then Equals else Odd text)))))
+sign-short : (a b c d f : Bool) (text : List ℕ) → length text ≤ WORD_LIMIT → IsShort (if a then Open else (if b then Close else (if c then Comma else (if d then Semicolon else (if f then Equals else Odd text)))))
 sign-short true b c d f text le = tt
 sign-short false true c d f text le = tt
 sign-short false false true d f text le = tt
@@ -109,8 +111,8 @@ sign-short false false false true f text le = tt
 sign-short false false false false true text le = tt
 sign-short false false false false false text le = le
 
--- a token of at most 64 bytes is short
-pub token-short : (text : List ℕ) → length text ≤ 64 → IsShort (token_of text)
+-- a token of at most `WORD_LIMIT` bytes is short
+pub token-short : (text : List ℕ) → length text ≤ WORD_LIMIT → IsShort (token_of text)
 token-short [] le = le
 token-short (b ∷ u) le = at (is_letter b)
   where
@@ -118,12 +120,12 @@ token-short (b ∷ u) le = at (is_letter b)
     at true = word-short _ _ _ _ (spelled (b ∷ u)) (spelled-short _ _ (b ∷ u) le)
     at false = sign-short _ _ _ _ _ (b ∷ u) le
 
--- and a short token has at most 64 bytes
-pub short-token : (text : List ℕ) → is_token text ≡ true → IsShort (token_of text) → length text ≤ 64
+-- and a short token has at most `WORD_LIMIT` bytes
+pub short-token : (text : List ℕ) → is_token text ≡ true → IsShort (token_of text) → length text ≤ WORD_LIMIT
 short-token [] t s = s
 short-token (b ∷ u) t s = at (is_letter b) refl s
   where
-    at : (v : Bool) → is_letter b ≡ v → IsShort (if v then word_token (b ∷ u) else sign_of (b ∷ u)) → length (b ∷ u) ≤ 64
-    at true e s = word-length _ _ _ _ (spelled (b ∷ u)) (b ∷ u) (reserved-length (b ∷ u) (codes "rules") (omega arith)) (reserved-length (b ∷ u) (codes "session") (omega arith))
-        (reserved-length (b ∷ u) (codes "end") (omega arith)) (reserved-length (b ∷ u) (codes "where") (omega arith)) (spelled-length _ _ (b ∷ u)) s
-    at false e s = let one = one-sign-length b u e t in omega arith
+    at : (v : Bool) → is_letter b ≡ v → IsShort (if v then word_token (b ∷ u) else sign_of (b ∷ u)) → length (b ∷ u) ≤ WORD_LIMIT
+    at true e s = word-length _ _ _ _ (spelled (b ∷ u)) (b ∷ u) (reserved-length (b ∷ u) (codes "rules") (omega (arith, word_limit))) (reserved-length (b ∷ u) (codes "session") (omega (arith, word_limit)))
+        (reserved-length (b ∷ u) (codes "end") (omega (arith, word_limit))) (reserved-length (b ∷ u) (codes "where") (omega (arith, word_limit))) (spelled-length _ _ (b ∷ u)) s
+    at false e s = let one = one-sign-length b u e t in omega (arith, word_limit)

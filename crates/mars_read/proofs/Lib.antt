@@ -6,6 +6,7 @@ pub mod Defining
 pub mod FirstToken
 pub mod Forms
 pub mod Lexing
+pub mod LimitsAre
 pub mod Naming
 pub mod Passes
 pub mod Placing

@@ -16,7 +16,7 @@ use Rattle.mars_read.specs.Meaning.{Said, name, free, says, ShowsSaid, IsTreeOf}
 use Rattle.mars_read.specs.declared.first.FirstPut.{FirstPut}
 use Rattle.mars_read.specs.First.{known_all, IsNameOf, IsPutOf}
 
--- the old names stand at their places
+-- the old names stay at their places
 pub record Grows (old new : List (List ℕ)) : Type 0 where
   pub added : List (List ℕ)
   pub whole : new ≡ old ++ added
@@ -53,7 +53,7 @@ length-with text names false = omega (arith, length-append names (text ∷ []))
 pub known-length : (text : List ℕ) (names : List (List ℕ)) → length (with_text text names) ≤ length names + 1
 known-length text names = length-with text names (is_some (place_of text names))
 
--- what stands at a place stays there
+-- what is at a place stays there
 stays : (xs ys : List (List ℕ)) (i : ℕ) (x : List ℕ) → slice_get xs i ≡ Some x → slice_get (xs ++ ys) i ≡ Some x
 stays [] ys i x at = cc
 stays (y ∷ xs) ys zero x at = at

@@ -6,7 +6,7 @@ use Rattle.std.proofs.lemmas.List.{set-get_or}
 use Rattle.mars_tree.specs.Graph.{Node, free_leaf, label_of, kids_of, with_kid}
 use Rattle.mars_read.specs.Built.{with_kids, redirected, redirected_at, target_in}
 
--- the elements in front of a place are replaced
+-- the elements before a place are replaced
 pub passed-step : {X : Type 0} (f : X → X) (xs : List X) (i : ℕ) (d : X) → i < length xs → slice_set (map f (take i xs) ++ drop i xs) i (f (get_or xs i d)) ≡ map f (take (suc i) xs) ++ drop (suc i) xs
 passed-step f [] i d less = absurd (omega arith)
 passed-step f (x ∷ xs) zero d less = refl
@@ -30,7 +30,7 @@ passed-all f [] (suc i) le = refl
 passed-all f (x ∷ xs) zero le = absurd (omega arith)
 passed-all f (x ∷ xs) (suc i) le = ap (λ l. f x ∷ l) (passed-all f xs i (omega arith))
 
--- the elements in front of a place are those of another list
+-- the elements before a place are those of another list
 pub copied-step : (xs ys : List ℕ) (i d : ℕ) → i < length xs → length xs ≡ length ys → slice_set (take i xs ++ drop i ys) i (get_or xs i d) ≡ take (suc i) xs ++ drop (suc i) ys
 copied-step [] ys i d less e = absurd (omega arith)
 copied-step (x ∷ xs) [] i d less e = absurd (omega arith)

@@ -12,13 +12,13 @@ use Rattle.mars_read.specs.Lexed.{IsLongest, Begins, IsShort, open_after, IsLexe
 use Rattle.mars_read.proofs.FirstToken.{prefix-all}
 use Rattle.mars_read.proofs.Steps.{LexedTo, lexed-more, lexed-end, lexed-bad, lexed-deep, all-blank, not-all-blank}
 
--- the tokens in front of a place
+-- the tokens before a place
 pub record PlacedTo (bytes : List ℕ) (tokens : List Placed) (at depth : ℕ) : Type 0 where
   pub at_in : at ≤ length bytes
   pub within : All (LiesWithin bytes) tokens
   pub lexed : LexedTo bytes (all_seen bytes tokens) (drop at bytes) depth
 
--- the next token behind blanks
+-- the next token after blanks
 pub record IsNext (bytes : List ℕ) (at : ℕ) (t : Placed) : Type 0 where
   pub start : t.start ≡ at + prefix_len is_blank (drop at bytes)
   pub some : t.start < t.end

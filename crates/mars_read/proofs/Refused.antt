@@ -1,5 +1,5 @@
 -- Where the machine finds no way on.
-use Rattle.std.proofs.Common.{◌≡◌, ℕ, ◌≤◌, List, [], ◌∷◌, ◌++◌, length, refl, ap, Some, None, arith}
+use Rattle.std.proofs.Common.{◌+◌, ◌≡◌, ℕ, ◌≤◌, List, [], ◌∷◌, ◌++◌, length, refl, ap, Some, None, arith}
 use Rattle.std.specs.Prelude.{option_and_then, nat_lt, ◌&&◌, not, Bool, true, false, if◌then◌else◌, codes}
 use Rattle.std.proofs.lemmas.Bool.Decides.{nat_tests, Decides-eqb}
 use Rattle.std.proofs.lemmas.Slice.Eq.{slice_eq-Decides}
@@ -14,6 +14,7 @@ use Rattle.mars_read.specs.Written.{Written, Variable, Definition, WrittenPut, S
 use Rattle.mars_read.specs.Grammar.{is_among}
 use Rattle.mars_read.specs.Machine.{Head, Stack, InTree, InDefinition, InRow, ReaderState, Starts, Ruled, Named, Commands, Puts, Wants, Has, Defining, Equating, Whole, ended, with_definition, may_define, is_put, closes, step, run}
 use Rattle.mars_read.specs.Reading.{OnForm, IsNotNext, IsNoName, IsNoVariable, HasMore}
+use Rattle.mars_read.specs.declared.limits.TheConstants.{ARGUMENT_LIMIT, COMMAND_LIMIT}
 
 -- one refusal from another
 pub on-form : {P Q : Type 0} (e : Refusal) → (P → Q) → OnForm e P → OnForm e Q
@@ -72,9 +73,9 @@ row-stuck (token.Comma ∷ rest) comma close t f front k = absurd (comma refl)
 row-stuck (token.Close ∷ rest) comma close t f front k = absurd (close refl)
 row-stuck (_ ∷ rest) comma close t f front k = refl
 
-pub row-full : (rest : List Token) (t : Written) (f : List ℕ) (front : List Written) (k : Stack) → 15 ≤ length front → run (token.Comma ∷ rest) (Has t (InRow f front k)) ≡ None
+pub row-full : (rest : List Token) (t : Written) (f : List ℕ) (front : List Written) (k : Stack) → ARGUMENT_LIMIT ≤ length front + 1 → run (token.Comma ∷ rest) (Has t (InRow f front k)) ≡ None
 unfolding run step closes
-row-full rest t f front k many = by-test (nat_lt (length front) 15) (Wants (InRow f (front ++ t ∷ []) k)) rest (grind (arith, nat_tests))
+row-full rest t f front k many = by-test (nat_lt (length front + 1) ARGUMENT_LIMIT) (Wants (InRow f (front ++ t ∷ []) k)) rest (grind (arith, nat_tests))
 
 pub tree-stuck : (tokens : List Token) → IsNotNext token.Where tokens → IsNotNext token.Semicolon tokens → (t : Written) (h : Head) → run tokens (Has t (InTree h)) ≡ None
 unfolding run step closes
@@ -95,7 +96,7 @@ no-equals [] apart h t ds x = refl
 no-equals (token.Equals ∷ rest) apart h t ds x = absurd (apart refl)
 no-equals (_ ∷ rest) apart h t ds x = refl
 
--- a definition that may not stand there
+-- a definition that may not come there
 pub definition-barred : (tokens : List Token) (h : Head) (whole : Written) (ds : List Definition) (x : List ℕ) (t : Written) → may_define ds x t ≡ false →
     run tokens (Has t (InDefinition h whole ds x)) ≡ None
 unfolding run step closes
@@ -131,12 +132,12 @@ not-done [] left script = absurd (left refl)
 not-done (token.Rules ∷ rest) left script = refl
 not-done (_ ∷ rest) left script = refl
 
-pub no-command-more : (tokens : List Token) → IsNotNext token.Ends tokens → (s : List ℕ) (ps : List WrittenPut) → 256 ≤ length ps → run tokens (Commands s ps) ≡ None
+pub no-command-more : (tokens : List Token) → IsNotNext token.Ends tokens → (s : List ℕ) (ps : List WrittenPut) → COMMAND_LIMIT ≤ length ps → run tokens (Commands s ps) ≡ None
 unfolding run step
 no-command-more [] open_ s ps many = refl
 no-command-more (token.Ends ∷ rest) open_ s ps many = absurd (open_ refl)
 no-command-more ((token.Name x) ∷ rest) open_ s ps many =
-    by-test (is_put x && nat_lt (length ps) 256) (Puts s ps) rest (and-false (is_put x) (nat_lt (length ps) 256) (grind (arith, nat_tests)))
+    by-test (is_put x && nat_lt (length ps) COMMAND_LIMIT) (Puts s ps) rest (and-false (is_put x) (nat_lt (length ps) COMMAND_LIMIT) (grind (arith, nat_tests)))
 no-command-more (_ ∷ rest) open_ s ps many = refl
 
 false-and : (a b : Bool) → a ≡ false → (a && b) ≡ false
@@ -154,5 +155,5 @@ unfolding run step
 no-word [] open_ apart s ps = refl
 no-word (token.Ends ∷ rest) open_ apart s ps = absurd (open_ refl)
 no-word ((token.Name x) ∷ rest) open_ apart s ps =
-    by-test (is_put x && nat_lt (length ps) 256) (Puts s ps) rest (false-and (is_put x) (nat_lt (length ps) 256) (other-word x apart))
+    by-test (is_put x && nat_lt (length ps) COMMAND_LIMIT) (Puts s ps) rest (false-and (is_put x) (nat_lt (length ps) COMMAND_LIMIT) (other-word x apart))
 no-word (_ ∷ rest) open_ apart s ps = refl

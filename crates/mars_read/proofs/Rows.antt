@@ -19,6 +19,7 @@ use Rattle.mars_read.proofs.Complete.{bare-alone, comma-runs, close-runs, joined
 use Rattle.mars_read.proofs.Refused.{row-stuck, row-full}
 use Rattle.mars_read.proofs.Views.{keeps-same, keeps-on, keeps-names, keeps-variable, keeps-node, stand-in-row, variable-nodes, variable-longer}
 use Rattle.mars_read.proofs.Standing.{stands-applied}
+use Rattle.mars_read.proofs.LimitsAre.{argument_limit}
 
 -- a row of arguments, each with its comma
 pub record OpenRow (old now : View) (kids : List ℕ) : Type 0 where
@@ -69,7 +70,7 @@ stay-all old new (n ∷ kids) (t ∷ ts) keeps are = (keeps.stands n t are.0, st
 shorter : {tokens rest : List Token} (first : Token) → tokens ≡ first ∷ rest → length tokens ≡ length rest + 1
 shorter {tokens} {rest} first e = let h : length tokens ≡ length (first ∷ rest) = ap length e in omega arith
 
--- an argument behind those in front
+-- an argument after those before it
 module _ (old now next : View) (kids : List ℕ) (kid : ℕ) (row : OpenRow old now kids) (term : ReadsTerm now next kid) where
   as-long : length kids ≡ length row.written
   as-long = zip-length (λ n t. Stands now.names now.built n t) kids row.written row.stand
@@ -98,7 +99,7 @@ module _ (old now next : View) (kids : List ℕ) (kid : ℕ) (row : OpenRow old 
         (ap (λ l. row.taken ++ l) (sym (append_assoc term.front (token.Comma ∷ []) us)) ∙ sym (append_assoc row.taken (term.front ++ (token.Comma ∷ [])) us))
         (subst (λ (w : Writtens). AreTerms (row.taken ++ (term.front ++ (token.Comma ∷ us))) w) (sym (joined-push row.written term.written terms))
         (row.goes (term.front ++ (token.Comma ∷ us)) (more term.written terms) (others term.is are)));
-    runs = λ f k. runs-to f k ∙ ap (λ l. run l (Has term.written (InRow f row.written k))) comma ∙ comma-runs term.written f row.written k rest (omega (arith, as-long, length-append kids (kid ∷ [])));
+    runs = λ f k. runs-to f k ∙ ap (λ l. run l (Has term.written (InRow f row.written k))) comma ∙ comma-runs term.written f row.written k rest (omega (arith, argument_limit, as-long, length-append kids (kid ∷ [])));
     names_are = all-names;
     stand = all-stand;
     kids_in = all-in;
@@ -113,7 +114,7 @@ module _ (old now next : View) (kids : List ℕ) (kid : ℕ) (row : OpenRow old 
   }
 
   pub row-over : (rest : List Token) → next.tokens ≡ token.Comma ∷ rest → 16 ≤ length (kids ++ kid ∷ []) → (f : List ℕ) (k : Stack) → run old.tokens (Wants (InRow f [] k)) ≡ None
-  row-over rest comma many f k = runs-to f k ∙ ap (λ l. run l (Has term.written (InRow f row.written k))) comma ∙ row-full rest term.written f row.written k (omega (arith, as-long, length-append kids (kid ∷ [])))
+  row-over rest comma many f k = runs-to f k ∙ ap (λ l. run l (Has term.written (InRow f row.written k))) comma ∙ row-full rest term.written f row.written k (omega (arith, argument_limit, as-long, length-append kids (kid ∷ [])))
 
   pub row-unclosed : (now_tokens : List Token) → now_tokens ≡ next.tokens → IsNotNext token.Comma next.tokens → IsNotNext token.Close now_tokens → (f : List ℕ) (k : Stack) → run old.tokens (Wants (InRow f [] k)) ≡ None
   row-unclosed now_tokens same comma close f k = runs-to f k
@@ -131,7 +132,7 @@ module _ (old now next : View) (kids : List ℕ) (kid : ℕ) (row : OpenRow old 
         split = row.split ∙ ap (λ l. row.taken ++ l) (term.split ∙ ap (λ l. term.front ++ l) behind ∙ sym (append_assoc term.front (token.Close ∷ []) rest))
             ∙ sym (append_assoc row.taken (term.front ++ (token.Close ∷ [])) rest);
         is = subst (λ (l : List Token). IsTerm (token.Name f ∷ token.Open ∷ l) (Applied f (row_with row.written (more term.written none)))) (append_assoc row.taken term.front (token.Close ∷ []))
-            (applied (row.goes term.front (more term.written none) (one term.is)) (omega (arith, count-joined row.written (more term.written none), as-long, row.few)));
+            (applied (row.goes term.front (more term.written none) (one term.is)) (omega (arith, argument_limit, count-joined row.written (more term.written none), as-long, row.few)));
         runs = λ k. runs-to f k ∙ ap (λ l. run l (Has term.written (InRow f row.written k))) behind ∙ close-runs term.written f row.written k rest;
         names_are = all-names ∙ ap (λ l. known_all (names_in_all l) old.names) (joined-push row.written term.written none);
         stands = subst (λ (b : Built). Stands next.names b node (Applied f (row_with row.written (more term.written none)))) (sym closes.more_is)
@@ -175,7 +176,7 @@ term-variable tokens rest names b c x n e is leaf inside built = record {
   };
 }
 
--- a NAME and what stands behind it
+-- a NAME and what follows it
 pub term-named : (tokens rest : List Token) (names : List (List ℕ)) (b : Built) (new : View) (f : List ℕ) (n : ℕ) → tokens ≡ token.Name f ∷ rest → ReadsNamed f (view rest names b) new n →
     ReadsTerm (view tokens names b) new n
 unfolding run step

@@ -1,4 +1,4 @@
--- The tokens so far: whatever comes behind them, and what every list of tokens begins with.
+-- The tokens so far: whatever comes after them, and what every list of tokens begins with.
 use Rattle.std.proofs.Common.{◌≡◌, ℕ, ◌+◌, ◌-◌, ◌<◌, ◌≤◌, List, [], ◌∷◌, ◌++◌, length, take, drop, refl, ap, sym, ◌∙◌, Bool, true, false, cond, subst, arith, append_assoc, append-nil, suc, length-take-le, take-append-drop, take_all}
 use Rattle.std.specs.Prelude.{◌&&◌}
 use Rattle.std.specs.List.{list_all, prefix_len}
@@ -9,6 +9,8 @@ use Rattle.mars_read.specs.Token.{Token}
 use Rattle.mars_read.specs.Lexed.{is_token, IsLongest, Begins, BeginsNone, AreTokens, IsShort, open_after, deepest, AreWithinLimits, IsLexed, OneTokenList, IsNotLexed, HasNoToken}
 use Rattle.mars_read.proofs.FirstToken.{prefix-all}
 use Rattle.mars_read.proofs.Lexing.{begins-one, begins-behind, token-first, short-token}
+use Rattle.mars_read.specs.declared.limits.TheConstants.{WORD_LIMIT, BRACKET_LIMIT}
+use Rattle.mars_read.proofs.LimitsAre.{word_limit, bracket_limit}
 
 blank-rest : (blanks rest : List ℕ) → list_all is_blank (blanks ++ rest) ≡ true → list_all is_blank rest ≡ true
 blank-rest [] rest e = e
@@ -26,7 +28,7 @@ no-blank-token (b ∷ u) rest t e = at (is_blank b) (token-first b u t) e
     at true n e = cc
     at false n e = let f : ◌≡◌ {A = Bool} false true = e in cc
 
--- no token stands in blanks
+-- there is no token in blanks
 pub blanks-no-token : (bytes rest : List ℕ) (t : Token) → list_all is_blank bytes ≡ true → Begins bytes t rest → ⊥
 blanks-no-token bytes rest t e b = no-blank-token b.text rest b.longest.token (blank-rest b.blanks (b.text ++ rest) (ap (λ l. list_all is_blank l) (sym b.whole) ∙ e))
 
@@ -46,13 +48,13 @@ depth-within : (depth : ℕ) (tokens : List Token) → depth ≤ deepest depth t
 depth-within depth [] = omega arith
 depth-within depth (t ∷ ts) = omega arith
 
--- what every list of tokens with these in front goes on with
+-- what every list of tokens that begins with these goes on with
 pub record GoesOn (tokens : List Token) (depth : ℕ) (rest : List ℕ) (all : List Token) : Type 0 where
   pub others : List Token
   pub whole : all ≡ tokens ++ others
   pub limits : AreWithinLimits depth rest others
 
--- the tokens in front of the rest
+-- the tokens before the rest
 pub record LexedTo (bytes : List ℕ) (tokens : List Token) (rest : List ℕ) (depth : ℕ) : Type 0 where
   pub nesting : depth ≤ 200
   pub before : (others : List Token) → AreWithinLimits depth rest others → IsLexed bytes (tokens ++ others)
@@ -62,7 +64,7 @@ pub lexed-none : (bytes : List ℕ) → LexedTo bytes [] bytes 0
 lexed-none bytes = record { nesting = omega arith; before = λ others l. l; only = λ all l. record { others = all; whole = refl; limits = l } }
 
 with-first : (depth : ℕ) (rest after : List ℕ) (t : Token) (others : List Token) → depth ≤ 200 → Begins rest t after → IsShort t → AreWithinLimits (open_after depth t) after others → AreWithinLimits depth rest (t ∷ others)
-with-first depth rest after t others fits b short l = record { lexed = (after, b, l.lexed); short = All-cons IsShort t others short l.short; nesting = let deep = l.nesting in omega arith }
+with-first depth rest after t others fits b short l = record { lexed = (after, b, l.lexed); short = All-cons IsShort t others short l.short; nesting = let deep = l.nesting in omega (arith, bracket_limit) }
 
 pub record Behind (depth : ℕ) (after : List ℕ) (t s : Token) (others : List Token) : Type 0 where
   pub token : s ≡ t
@@ -78,7 +80,7 @@ behind-first depth rest after t s others b l =
       limits = record {
         lexed = subst (λ r. AreTokens r others) same.rest l.lexed.2;
         short = All-tail IsShort s others l.short;
-        nesting = subst (λ x. deepest (open_after depth x) others ≤ 200) same.token (let deep = l.nesting in omega arith);
+        nesting = subst (λ x. deepest (open_after depth x) others ≤ BRACKET_LIMIT) same.token (let deep = l.nesting in omega arith);
       };
     }
 
@@ -105,7 +107,7 @@ lexed-more bytes rest after tokens depth t so_far b short fits = record {
 
 -- at the end of the text
 pub lexed-end : (bytes rest : List ℕ) (tokens : List Token) (depth : ℕ) → LexedTo bytes tokens rest depth → list_all is_blank rest ≡ true → IsLexed bytes tokens
-lexed-end bytes rest tokens depth so_far e = subst (λ ts. IsLexed bytes ts) (append-nil tokens) (so_far.before [] (record { lexed = e; short = All-nil IsShort; nesting = so_far.nesting }))
+lexed-end bytes rest tokens depth so_far e = subst (λ ts. IsLexed bytes ts) (append-nil tokens) (so_far.before [] (record { lexed = e; short = All-nil IsShort; nesting = omega (arith, so_far.nesting, bracket_limit) }))
 
 -- one bracket too many
 pub lexed-deep : (bytes rest after : List ℕ) (tokens : List Token) (depth : ℕ) (t : Token) → LexedTo bytes tokens rest depth → Begins rest t after → 200 < open_after depth t → IsNotLexed bytes
@@ -113,7 +115,7 @@ lexed-deep bytes rest after tokens depth t so_far b over all l = let on = so_far
   where
     at : (others : List Token) → AreWithinLimits depth rest others → ⊥
     at [] l = none-else depth rest after t b l
-    at (s ∷ others) l = let deep = (behind-first depth rest after t s others b l).limits.nesting in let fits = depth-within (open_after depth t) others in omega arith
+    at (s ∷ others) l = let deep = (behind-first depth rest after t s others b l).limits.nesting in let fits = depth-within (open_after depth t) others in omega (arith, bracket_limit)
 
 -- nothing that could come next
 pub lexed-bad : (bytes rest : List ℕ) (tokens : List Token) (depth : ℕ) → LexedTo bytes tokens rest depth → list_all is_blank rest ≡ false → HasNoToken (drop (prefix_len is_blank rest) rest) → IsNotLexed bytes
@@ -125,13 +127,13 @@ lexed-bad bytes rest tokens depth so_far some bad all l = let on = so_far.only a
         let b = l.lexed.1 in
         bad b.text l.lexed.0 (sym (begins-behind rest l.lexed.0 s b)) b.longest (subst (λ x. IsShort x) b.named (All-head IsShort s others l.short))
 
--- the longest token has more than 64 bytes
+-- the longest token has too many bytes
 pub too-long : (bytes : List ℕ) (n : ℕ) → IsLongest (take n bytes) (drop n bytes) → n ≤ length bytes → 64 < n → HasNoToken bytes
 too-long bytes n found within long text rest whole longest short =
     let size : length (take n bytes) ≡ n = length-take-le n bytes within in
     let below : length (take n bytes) ≤ length text = longest.longest (take n bytes) (drop n bytes) (take-append-drop n bytes ∙ sym whole) found.token in
-    let fits : length text ≤ 64 = short-token text longest.token short in
-    omega arith
+    let fits : length text ≤ WORD_LIMIT = short-token text longest.token short in
+    omega (arith, word_limit)
 
 pub none-short : (bytes : List ℕ) → BeginsNone bytes → HasNoToken bytes
 none-short bytes none text rest whole longest short = none text rest whole longest.token
@@ -142,7 +144,7 @@ longest-at bytes start n longest =
     let size : start + n - start ≡ n = omega arith in
     rw size (subst (λ l. IsLongest (take n (drop start bytes)) l) (drop-drop n start bytes) longest)
 
--- the blanks behind which nothing comes
+-- the blanks after which nothing comes
 pub all-blank : (rest : List ℕ) → prefix_len is_blank rest ≡ length rest → list_all is_blank rest ≡ true
 all-blank rest e = ap (λ l. list_all is_blank l) (sym (ap (λ k. take k rest) e ∙ take_all (length rest) rest (omega arith))) ∙ prefix-all is_blank rest
 

@@ -99,7 +99,7 @@ ends-agree names b definitions (Some n) (Some w) built e = shown-alike names b d
 ends-agree names b definitions (Some n) None built e = absurd e
 ends-agree names b definitions None (Some w) built e = absurd e
 
--- where a free variable stands
+-- where a free variable is
 record EndsAt (b : Built) (o : Option ℕ) (x : List ℕ) : Type 0 where
   leaf : ℕ
   ends : o ≡ Some leaf

@@ -1,4 +1,4 @@
--- What a builder of graphs has read: nodes that stand for written terms, with a leaf for each variable.
+-- What a builder of graphs has read so far: nodes that stand for written terms, with a leaf for each variable.
 use Rattle.std.specs.Prelude.{◌≡◌, ◌≢◌, ℕ, ◌<◌, List, [], ◌∷◌, ◌++◌, length, map, Option, Some, None, Bool, false, not, is_some, IsSome, ◌==◌, slice_get, slice_set, slice_index_or, if◌then◌else◌, All}
 use Rattle.std.specs.Option.{option_map_or}
 use Rattle.std.specs.Str.{bytes_eq}

@@ -1,4 +1,4 @@
--- What stands in the fields of a builder.
+-- What the fields of a builder hold.
 use Rattle.std.specs.Prelude.{map}
 use Rattle.mars_read.specs.declared.builder.TreeBuilder.TheInside.{Inside}
 use Rattle.mars_read.specs.Built.{Built, IsBuilt}

@@ -1,4 +1,4 @@
--- Texts of the first form, and what a text says by numbers of names and graphs.
+-- Inputs, and what an input says, by numbers of names and by graphs.
 use Rattle.std.specs.Prelude.{◌≡◌, ℕ, ◌+◌, ◌<◌, ◌≤◌, List, [], ◌∷◌, length, slice_get, Option, Some, None}
 use Rattle.std.specs.List.{AllZip}
 use Rattle.mars_tree.specs.declared.label.NameId.{NameId}
@@ -10,8 +10,9 @@ use Rattle.mars_read.specs.Meaning.{IsTreeOf}
 use Rattle.mars_read.specs.Token.{Token}
 use Rattle.mars_read.specs.Lexed.{IsLexed}
 use Rattle.mars_read.specs.Grammar.{IsScript}
+use Rattle.mars_read.specs.declared.limits.TheConstants.{INPUT_LIMIT}
 
--- the names with further texts, each at its first appearance
+-- the names with further spellings, each at its first appearance
 abbrev pub known_all : List (List ℕ) → List (List ℕ) → List (List ℕ)
 known_all [] names = names
 known_all (text ∷ texts) names = known_all texts (with_text text names)
@@ -32,7 +33,7 @@ IsSessionOf names (Some text) (Some id) = IsNameOf names text id
 IsSessionOf names None None = Unit {0}
 IsSessionOf names _ _ = ⊥
 
--- a whole text by its numbers: the names are the thirteen and those of the text
+-- a whole input by its numbers: the names are the built-in ones and those of the input
 pub record IsFirstOf (written : Script) (first : First) : Type 0 where
   pub names : first.names ≡ known_all (names_in_script written) built_in_names
   pub session : IsSessionOf first.names written.session first.session
@@ -43,9 +44,9 @@ abbrev pub nodes_in : List FirstPut → ℕ
 nodes_in [] = 0
 nodes_in (put ∷ puts) = length put.graph + nodes_in puts
 
--- the bytes are a text of the first form, which says this
+-- the bytes are an input, which says this
 pub record IsFirstForm (bytes : List ℕ) (script : Script) : Type 0 where
-  pub size : length bytes ≤ 1048576
+  pub size : length bytes ≤ INPUT_LIMIT
   pub tokens : List Token
   pub lexed : IsLexed bytes tokens
   pub is : IsScript tokens script
@@ -56,10 +57,10 @@ pub record IsReadFrom (bytes : List ℕ) (first : First) : Type 0 where
   pub form : IsFirstForm bytes script
   pub says : IsFirstOf script first
 
--- the bytes aren't a text of the first form
+-- the bytes aren't an input of the form
 abbrev pub IsNoFirstForm : List ℕ → Type 0
 IsNoFirstForm bytes = (script : Script) → IsFirstForm bytes script → ⊥
 
--- a text says one thing
+-- an input says one thing
 abbrev pub OneScript : Type 0
 OneScript = (bytes : List ℕ) (script other : Script) → IsFirstForm bytes script → IsFirstForm bytes other → script ≡ other

@@ -1,17 +1,18 @@
--- The grammar of the first form: which tokens say what.
+-- The grammar of an input: which tokens say what.
 use Rattle.std.specs.Prelude.{◌≡◌, ℕ, ◌≤◌, List, [], ◌∷◌, ◌++◌, length, Some, None, Bool, false, codes}
 use Rattle.std.specs.Str.{bytes_eq}
 use Rattle.std.specs.List.{list_any}
 use Rattle.mars_read.specs.Token.{Token}
 use Rattle.mars_read.specs.Token as token
 use Rattle.mars_read.specs.Written.{Written, Variable, Applied, Writtens, none, more, argument_count, Definition, WrittenTree, WrittenPut, Script}
+use Rattle.mars_read.specs.declared.limits.TheConstants.{ARGUMENT_LIMIT, COMMAND_LIMIT}
 
 mutual
-  -- TERM: a VAR, a NAME, or a NAME and at most 16 arguments in brackets
+  -- TERM: a VAR, a NAME, or a NAME and at most `ARGUMENT_LIMIT` arguments in brackets
   pub data IsTerm : List Token → Written → Type 0 where
     variable : {x : List ℕ} → IsTerm (token.Variable x ∷ []) (Variable x)
     name : {f : List ℕ} → IsTerm (token.Name f ∷ []) (Applied f none)
-    applied : {f : List ℕ} {ts : List Token} {terms : Writtens} → AreTerms ts terms → argument_count terms ≤ 16 →
+    applied : {f : List ℕ} {ts : List Token} {terms : Writtens} → AreTerms ts terms → argument_count terms ≤ ARGUMENT_LIMIT →
         IsTerm (token.Name f ∷ token.Open ∷ (ts ++ (token.Close ∷ []))) (Applied f terms)
 
   -- TERM {, TERM}
@@ -33,7 +34,7 @@ pub data AreDefinitions : List Token → List Definition → Type 0 where
 abbrev pub is_among : List ℕ → List Definition → Bool
 is_among x definitions = list_any (λ d. bytes_eq x d.variable) definitions
 
--- no variable is defined twice: none stands among those before it
+-- no variable is defined twice: none is among those before it
 abbrev pub DefinesOnce : List Definition → List Definition → Type 0
 DefinesOnce before [] = Unit {0}
 DefinesOnce before (d ∷ definitions) = (is_among d.variable before ≡ false) × DefinesOnce (before ++ d ∷ []) definitions
@@ -54,8 +55,8 @@ pub data ArePuts : List Token → List WrittenPut → Type 0 where
   no_puts : ArePuts [] []
   puts : {ts us : List Token} {p : WrittenPut} {ps : List WrittenPut} → IsPut ts p → ArePuts us ps → ArePuts (ts ++ us) (p ∷ ps)
 
--- `rules end`, or `rules session` NAME, at most 256 commands, and `end`
+-- `rules end`, or `rules session` NAME, at most `COMMAND_LIMIT` commands, and `end`
 pub data IsScript : List Token → Script → Type 0 where
   empty : IsScript (token.Rules ∷ token.Ends ∷ []) (record { session = None; puts = [] })
-  session : {n : List ℕ} {ts : List Token} {ps : List WrittenPut} → ArePuts ts ps → length ps ≤ 256 →
+  session : {n : List ℕ} {ts : List Token} {ps : List WrittenPut} → ArePuts ts ps → length ps ≤ COMMAND_LIMIT →
       IsScript (token.Rules ∷ token.Session ∷ token.Name n ∷ (ts ++ (token.Ends ∷ []))) (record { session = Some n; puts = ps })

@@ -1,12 +1,14 @@
+-- Promised: inputs, the tokens and the grammar that make them, and what they mean.
+pub mod First
+pub mod Bytes
+pub mod Token
+pub mod Lexed
+pub mod Written
+pub mod Grammar
+pub mod Meaning
+-- Inside: the code's own steps, promised to nobody.
 pub mod Built
 pub mod BuiltInside
-pub mod Bytes
-pub mod First
-pub mod Grammar
-pub mod Lexed
 pub mod Machine
-pub mod Meaning
 pub mod Reading
 pub mod Seen
-pub mod Token
-pub mod Written

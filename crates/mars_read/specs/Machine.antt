@@ -1,37 +1,38 @@
 -- The reader as a machine that goes over the tokens once: what has been read, and what must come.
-use Rattle.std.specs.Prelude.{ℕ, List, [], ◌∷◌, ◌++◌, length, Option, Some, None, option_and_then, Bool, true, false, nat_lt, ◌&&◌, not, codes, if◌then◌else◌}
+use Rattle.std.specs.Prelude.{ℕ, ◌+◌, List, [], ◌∷◌, ◌++◌, length, Option, Some, None, option_and_then, Bool, true, false, nat_lt, ◌&&◌, not, codes, if◌then◌else◌}
 use Rattle.std.specs.Str.{bytes_eq}
 use Rattle.mars_read.specs.Token.{Token}
 use Rattle.mars_read.specs.Token as token
 use Rattle.mars_read.specs.Written.{Written, Variable, Applied, Writtens, none, more, Definition, WrittenPut, Script}
 use Rattle.mars_read.specs.Grammar.{is_among}
+use Rattle.mars_read.specs.declared.limits.TheConstants.{ARGUMENT_LIMIT, COMMAND_LIMIT}
 
--- where a command stands: the session, the commands before it, and its name
+-- the place of a command: the session, the commands before it, and its name
 pub record Head : Type 0 where
   pub session : List ℕ
   pub puts : List WrittenPut
   pub name : List ℕ
 
--- what is open: the TERM of a TREE, that of a definition behind others, or a row of arguments behind those before
+-- what is open: the TERM of a TREE, that of a definition after others, or a row of arguments after those before
 pub data Stack : Type 0 where
   InTree : Head → Stack
   InDefinition : Head → Written → List Definition → List ℕ → Stack
   InRow : List ℕ → List Written → Stack → Stack
 
--- what must come next, and what has been read; a state that stands for a text, Whole, has nothing behind it
+-- what must come next, and what has been read; after a whole input, Whole, nothing comes
 pub data ReaderState : Type 0 where
   Starts : ReaderState
-  -- behind `rules`, and behind `session`
+  -- after `rules`, and after `session`
   Ruled : ReaderState
   Named : ReaderState
-  -- a command or `end`, behind the commands before; a command's name
+  -- a command or `end`, after the commands before; a command's name
   Commands : List ℕ → List WrittenPut → ReaderState
   Puts : List ℕ → List WrittenPut → ReaderState
-  -- a TERM; what stands behind a NAME, which may have arguments; what stands behind a TERM
+  -- a TERM; what follows a NAME, which may have arguments; what follows a TERM
   Wants : Stack → ReaderState
   Bare : List ℕ → Stack → ReaderState
   Has : Written → Stack → ReaderState
-  -- a definition's variable, and `=` behind it
+  -- a definition's variable, and `=` after it
   Defining : Head → Written → List Definition → ReaderState
   Equating : Head → Written → List Definition → List ℕ → ReaderState
   Whole : Script → ReaderState
@@ -62,9 +63,9 @@ may_define definitions x t = not (is_among x definitions) && is_applied t
 abbrev pub is_put : List ℕ → Bool
 is_put text = bytes_eq text (codes "put")
 
--- what comes behind a TERM
+-- what follows a TERM
 unfoldable pub closes : Token → Written → Stack → Option ReaderState
-closes token.Comma t (InRow f front k) = if nat_lt (length front) 15 then Some (Wants (InRow f (front ++ t ∷ []) k)) else None
+closes token.Comma t (InRow f front k) = if nat_lt (length front + 1) ARGUMENT_LIMIT then Some (Wants (InRow f (front ++ t ∷ []) k)) else None
 closes token.Close t (InRow f front k) = Some (Has (Applied f (row_with front (more t none))) k)
 closes token.Where t (InTree h) = Some (Defining h t [])
 closes token.Semicolon t (InTree h) = Some (ended h t [])
@@ -79,7 +80,7 @@ step token.Ends Ruled = Some (Whole (record { session = None; puts = [] }))
 step token.Session Ruled = Some Named
 step (token.Name s) Named = Some (Commands s [])
 step token.Ends (Commands s ps) = Some (Whole (record { session = Some s; puts = ps }))
-step (token.Name x) (Commands s ps) = if is_put x && nat_lt (length ps) 256 then Some (Puts s ps) else None
+step (token.Name x) (Commands s ps) = if is_put x && nat_lt (length ps) COMMAND_LIMIT then Some (Puts s ps) else None
 step (token.Name n) (Puts s ps) = Some (Wants (InTree (record { session = s; puts = ps; name = n })))
 step (token.Variable x) (Wants k) = Some (Has (Variable x) k)
 step (token.Name f) (Wants k) = Some (Bare f k)
@@ -90,7 +91,7 @@ step (token.Variable x) (Defining h t ds) = Some (Equating h t ds x)
 step token.Equals (Equating h t ds x) = Some (Wants (InDefinition h t ds x))
 step _ _ = None
 
--- what a text that is read to its end says
+-- what an input that is read to its end says
 unfoldable pub run : List Token → ReaderState → Option Script
 run [] (Whole script) = Some script
 run [] _ = None

@@ -1,4 +1,4 @@
--- What a written tree means: what stands at the end of each path, as in a graph.
+-- What a written tree means: what is at the end of each path, as in a graph.
 use Rattle.std.specs.Prelude.{◌≡◌, ◌≢◌, ◌↔◌, ℕ, List, [], ◌∷◌, length, map, Option, Some, None, slice_get, if◌then◌else◌}
 use Rattle.std.specs.Option.{option_map}
 use Rattle.std.specs.Str.{bytes_eq}
@@ -9,7 +9,7 @@ use Rattle.mars_tree.specs.Graph as graph
 use Rattle.mars_tree.specs.Walk.{walk}
 use Rattle.mars_read.specs.Written.{Written, Variable, Applied, Writtens, none, more, Definition, WrittenTree}
 
--- a row of terms_below as a list
+-- a row of terms as a list
 abbrev pub listed : Writtens → List Written
 listed none = []
 listed (more t terms) = t ∷ listed terms
@@ -24,16 +24,17 @@ abbrev pub resolved_term : List Definition → Written → Written
 resolved_term definitions (Variable x) = defined definitions x
 resolved_term definitions (Applied f terms) = Applied f terms
 
--- what stands below a term
+-- the terms below a term
 abbrev pub terms_below : List Definition → Written → List Written
 terms_below definitions (Variable x) = []
 terms_below definitions (Applied f terms) = map (resolved_term definitions) (listed terms)
 
--- a name with the number of its terms_below, or a variable without a definition
+-- a name with the number of its terms, or a variable without a definition
 pub data Said : Type 0 where
   name : List ℕ → ℕ → Said
   free : List ℕ → Said
 
+-- what a term says at its root
 abbrev pub said : Written → Said
 said (Variable x) = free x
 said (Applied f terms) = name f (length (listed terms))

@@ -1,4 +1,4 @@
--- What the functions of the reader say: which tokens they took, and what those say.
+-- What the functions of the reader did: which tokens they took, and what those say.
 use Rattle.std.specs.Prelude.{◌≡◌, ℕ, ◌+◌, ◌≤◌, ◌<◌, List, [], ◌∷◌, ◌++◌, length, codes, false}
 use Rattle.std.specs.List.{AllZip}
 use Rattle.mars_tree.specs.Graph.{labelled}
@@ -17,8 +17,9 @@ use Rattle.mars_read.specs.Grammar.{IsTerm, IsDefinition, AreDefinitions, IsTree
 use Rattle.mars_read.specs.Machine.{Head, Stack, InDefinition, InRow, Wants, Bare, Has, Defining, run}
 use Rattle.mars_read.specs.Built.{Built, Stands, Defines, IsBuilt, built_with_node}
 use Rattle.mars_read.specs.First.{known_all, IsNameOf, IsPutOf, IsFirstOf, nodes_in}
+use Rattle.mars_read.specs.declared.limits.TheConstants.{COMMAND_LIMIT}
 
--- the fact holds at a refusal of the form; want of memory says nothing
+-- the fact holds at a refusal of the form; out of memory says nothing
 abbrev pub OnForm : Refusal → Type 0 → Type 0
 OnForm refusal.Form P = P
 OnForm refusal.NoMemory P = Unit {0}
@@ -44,7 +45,7 @@ IsNoVariable tokens = (text : List ℕ) (rest : List Token) → tokens ≡ token
 abbrev pub HasMore : List Token → Type 0
 HasMore tokens = tokens ≡ [] → ⊥
 
--- what a reader has in front of it: the tokens that are left, the names, and the nodes of the tree
+-- what a reader goes on with: the tokens that are left, the names, and the nodes of the tree
 pub record View : Type 0 where
   pub tokens : List Token
   pub names : List (List ℕ)
@@ -53,7 +54,7 @@ pub record View : Type 0 where
 abbrev pub view : List Token → List (List ℕ) → Built → View
 view tokens names built = record { tokens = tokens; names = names; built = built }
 
--- what stood for a term, or was defined, still is
+-- what stood for a term still does, and what was defined still is
 pub record Keeps (old new : View) : Type 0 where
   pub stands : (n : ℕ) (t : Written) → Stands old.names old.built n t → Stands new.names new.built n t
   pub defines : (definitions : List Definition) → Defines old.names old.built definitions → Defines new.names new.built definitions
@@ -78,7 +79,7 @@ pub record ReadsTerm (old new : View) (node : ℕ) : Type 0 where
   pub keeps : Keeps old new
   pub fits : Fits 0 old new
 
--- what stands behind a NAME was read, as the rest of a TERM
+-- what follows a NAME was read, as the rest of a TERM
 pub record ReadsNamed (f : List ℕ) (old new : View) (node : ℕ) : Type 0 where
   pub terms : Writtens
   pub front : List Token
@@ -91,7 +92,7 @@ pub record ReadsNamed (f : List ℕ) (old new : View) (node : ℕ) : Type 0 wher
   pub keeps : Keeps old new
   pub fits : Fits 1 old new
 
--- the arguments of a NAME were read, and the bracket behind them
+-- the arguments of a NAME were read, and the bracket after them
 pub record ReadsRow (f : List ℕ) (old new : View) (node : ℕ) : Type 0 where
   pub terms : Writtens
   pub front : List Token
@@ -104,14 +105,14 @@ pub record ReadsRow (f : List ℕ) (old new : View) (node : ℕ) : Type 0 where
   pub keeps : Keeps old new
   pub fits : Fits 0 old new
 
--- the bracket behind arguments was taken, and the name stands above them
+-- the bracket after arguments was taken, and the name is above them
 pub record ClosesRow (name : NameId) (kids : List ℕ) (old new : List Token) (built more : Built) (node : ℕ) : Type 0 where
   pub closed : old ≡ token.Close ∷ new
   pub node_is : node ≡ length built.nodes
   pub more_is : more ≡ built_with_node built (labelled (label.Name name (length kids)) kids)
   pub was : IsBuilt built
 
--- a DEF was read: behind any definitions it is one more, if its variable is new
+-- a DEF was read: after any definitions it is one more, if its variable is new
 pub record ReadsDefinition (old new : View) : Type 0 where
   pub written : Definition
   pub front : List Token
@@ -123,7 +124,7 @@ pub record ReadsDefinition (old new : View) : Type 0 where
   pub defines : (ds : List Definition) → Defines old.names old.built ds → (is_among written.variable ds ≡ false) × Defines new.names new.built (ds ++ written ∷ [])
   pub fits : Fits 0 old new
 
--- definitions were read, and the semicolon behind them
+-- definitions were read, and the semicolon after them
 pub record ReadsDefinitions (old new : View) : Type 0 where
   pub written : List Definition
   pub front : List Token
@@ -135,7 +136,7 @@ pub record ReadsDefinitions (old new : View) : Type 0 where
   pub defines : Defines new.names new.built written
   pub fits : Fits 0 old new
 
--- what stands behind the TERM of a TREE was read, and the semicolon behind it
+-- what follows the TERM of a TREE was read, up to the semicolon
 pub record ReadsRest (old new : View) : Type 0 where
   pub written : List Definition
   pub front : List Token
@@ -146,7 +147,7 @@ pub record ReadsRest (old new : View) : Type 0 where
   pub defines : Defines new.names new.built written
   pub fits : Fits 0 old new
 
--- tokens and names from one place in the text to another
+-- tokens and names from one place in the input to another
 pub record Places : Type 0 where
   pub tokens : List Token
   pub rest : List Token
@@ -160,7 +161,7 @@ between tokens rest names known = record { tokens = tokens; rest = rest; names =
 abbrev pub HasRoom : Places → Type 0
 HasRoom p = length p.known + length p.rest ≤ length p.names + length p.tokens
 
--- a command was read, behind its word
+-- a command was read, after its word
 pub record ReadsPut (p : Places) (put : FirstPut) : Type 0 where
   pub written : WrittenPut
   pub front : List Token
@@ -177,13 +178,13 @@ pub record ReadsPuts (p : Places) (puts : List FirstPut) : Type 0 where
   pub front : List Token
   pub split : p.tokens ≡ front ++ p.rest
   pub are : ArePuts front written
-  pub few : length written ≤ 256
+  pub few : length written ≤ COMMAND_LIMIT
   pub names_are : p.known ≡ known_all (names_of_puts written) p.names
   pub stand : AllZip (IsPutOf p.known) written puts
   pub size : nodes_in puts + length p.rest ≤ length p.tokens
   pub room : HasRoom p
 
--- a session was read to its end, behind `rules`
+-- a session was read to its end, after `rules`
 pub record ReadsSession (p : Places) (id : NameId) (puts : List FirstPut) : Type 0 where
   pub name : List ℕ
   pub inner : Places
@@ -194,7 +195,7 @@ pub record ReadsSession (p : Places) (id : NameId) (puts : List FirstPut) : Type
   pub known_are : p.known ≡ inner.known
   pub id_is : IsNameOf p.known name id
 
--- a whole text was read
+-- a whole input was read
 pub record ReadsScript (tokens : List Token) (first : First) : Type 0 where
   pub written : Script
   pub is : IsScript tokens written

@@ -24,11 +24,11 @@ token_named kind.Equals text = Equals
 abbrev pub text_at : List ℕ → Placed → List ℕ
 text_at bytes token = take (token.end - token.start) (drop token.start bytes)
 
--- the token that stands there
+-- the token at that place
 abbrev pub seen : List ℕ → Placed → Token
 seen bytes token = token_named token.kind (text_at bytes token)
 
--- the tokens that stand there
+-- the tokens at those places
 abbrev pub all_seen : List ℕ → List Placed → List Token
 all_seen bytes tokens = map (seen bytes) tokens
 

@@ -1,4 +1,4 @@
--- The tokens of the first form, and which token a text is.
+-- The tokens, and which token bytes are.
 use Rattle.std.specs.Prelude.{ℕ, List, [], ◌∷◌, Bool, true, false, ◌==◌, ◌&&◌, if◌then◌else◌, codes}
 use Rattle.std.specs.Str.{bytes_eq}
 use Rattle.mars_read.specs.Bytes.{is_letter, is_digit}
@@ -61,7 +61,7 @@ sign_of (b ∷ bytes) =
     (if b == 59 then Semicolon else
     (if b == 61 then Equals else Odd (b ∷ bytes)))))
 
--- the token that a text is: what begins with a letter is a word
+-- the token that bytes are: what begins with a letter is a word
 abbrev pub token_of : List ℕ → Token
 token_of [] = Odd []
 token_of (b ∷ bytes) = if is_letter b then word_token (b ∷ bytes) else sign_of (b ∷ bytes)

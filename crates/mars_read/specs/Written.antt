@@ -1,4 +1,4 @@
--- What a text of the first form says, with its names and variables by their spellings.
+-- What an input says, with its names and variables by their spellings.
 use Rattle.std.specs.Prelude.{ℕ, ◌+◌, List, [], ◌∷◌, ◌++◌, Option, Some, None}
 
 mutual
@@ -32,12 +32,12 @@ pub record WrittenPut : Type 0 where
   pub name : List ℕ
   pub tree : WrittenTree
 
--- a whole text: the session's name, where there is a session, and its commands
+-- a whole input: the session's name, where there is a session, and its commands
 pub record Script : Type 0 where
   pub session : Option (List ℕ)
   pub puts : List WrittenPut
 
--- the names of a term, in the order of the text
+-- the names of a term, in the order of the input
 abbrev mutual
   pub names_in : Written → List (List ℕ)
   names_in (Variable x) = []
@@ -66,6 +66,6 @@ abbrev pub names_of_session : Option (List ℕ) → List (List ℕ)
 names_of_session None = []
 names_of_session (Some name) = name ∷ []
 
--- all names of a text
+-- all names of an input
 abbrev pub names_in_script : Script → List (List ℕ)
 names_in_script script = names_of_session script.session ++ names_of_puts script.puts

@@ -29,7 +29,7 @@ impl<'a> Model for Cursor<'a> {
 }
 
 impl<'a> Cursor<'a> {
-    /// In front of all tokens.
+    /// Before all tokens.
     pub(crate) fn new(bytes: &'a [u8], tokens: &'a [Token]) -> Cursor<'a>
         requires { All (LiesWithin bytes.now) tokens.now }
         ensures { result ≡ all_seen bytes.now tokens.now }

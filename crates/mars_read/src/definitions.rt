@@ -1,4 +1,4 @@
-//! The reader of a TREE behind its TERM: definitions, and the semicolon behind them.
+//! The reader of what follows the TERM of a TREE: definitions, and the semicolon after them.
 ghost use Rattle.std.specs.Prelude.{◌≡◌, ℕ, List, ◌+◌, ◌-◌, ◌^◌, ◌<◌, [], length, None, OnOk, IfErr};
 ghost use Rattle.mars_read.specs.Built.{Defines};
 ghost use Rattle.mars_read.specs.Written.{Written, Definition};
@@ -59,7 +59,7 @@ fn read_definitions(
     }
 }
 
-/// What stands behind the TERM of a TREE: its definitions, if it has any, and `;`.
+/// What follows the TERM of a TREE: its definitions, if it has any, and `;`.
 pub(crate) fn read_rest(
     alloc: Global,
     tokens: &mut Cursor,

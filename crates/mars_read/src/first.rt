@@ -1,8 +1,8 @@
-//! What a text of the first form says.
+//! What an input says.
 use mars_tree::{Graph, NameId, Names};
 use sqlite_items::Items;
 
-/// A text of the first form: its names, its session's name where it has a session, and the commands.
+/// An input: its names, its session's name where it has a session, and the commands.
 #[derive(Drop)]
 pub struct First {
     pub names: Names,

@@ -1,4 +1,4 @@
-//! The tokens of a text, from left to right in one pass.
+//! The tokens of an input, from left to right in one pass.
 ghost use Rattle.std.specs.Prelude.{◌≡◌, ℕ, ◌<◌, ◌≤◌, ◌^◌, List, ◌++◌, length, take, drop, All, IfOk, IfSome, IfNone};
 ghost use Rattle.std.specs.List.{prefix_len};
 ghost use Rattle.mars_read.specs.Bytes.{is_tail, is_blank};
@@ -7,16 +7,12 @@ ghost use Rattle.mars_read.specs.Token.{token_of};
 ghost use Rattle.mars_read.specs.Seen.{token_named, text_at, seen, all_seen, LiesWithin};
 
 use crate::bytes::{is_blank, is_letter, is_sign, is_tail};
+use crate::limits::{BRACKET_LIMIT, WORD_LIMIT};
 use crate::token::{Kind, Token, kind_of};
 use mars_base::NoMemory;
 use std::alloc::Global;
 
-/// The most bytes of a word.
-const LONGEST_WORD: usize = 64;
-/// The most brackets that may be open at once.
-const DEEPEST: u32 = 200;
-
-/// How many blanks stand in front.
+/// How many blanks come first.
 fn blanks(bytes: &[u8]) -> usize
     ensures count { result ≡ prefix_len is_blank bytes.now }
     ensures within { result ≤ length bytes.now }
@@ -24,7 +20,7 @@ fn blanks(bytes: &[u8]) -> usize
     bytes.iter().take_while(|b| is_blank(**b)).count()
 }
 
-/// How many bytes in front can stand in a word behind its first.
+/// How many bytes from the first on may go on with a word.
 fn tail(bytes: &[u8]) -> usize
     ensures count { result ≡ prefix_len is_tail bytes.now }
     ensures within { result ≤ length bytes.now }
@@ -32,7 +28,7 @@ fn tail(bytes: &[u8]) -> usize
     bytes.iter().take_while(|b| is_tail(**b)).count()
 }
 
-/// The length of the longest token in front, if one begins there.
+/// The length of the longest token with which the bytes begin, if they begin with one.
 fn first_token(bytes: &[u8]) -> Option<usize>
     requires { length bytes.now < 2 ^ 32 }
     ensures longest { IfSome result (λ n. IsLongest (take n bytes.now) (drop n bytes.now)) }
@@ -58,7 +54,7 @@ fn from_place(bytes: &[u8], at: usize) -> &[u8]
     &bytes[at..]
 }
 
-/// How many brackets are open behind a token, where `depth` are in front of it.
+/// How many brackets are open after a token, where `depth` are open before it.
 fn opened(depth: u32, kind: Kind) -> u32
     requires { depth ≤ 200 }
     ensures opened { (text : List ℕ) → result ≡ open_after depth (token_named kind text) }
@@ -71,7 +67,7 @@ fn opened(depth: u32, kind: Kind) -> u32
     }
 }
 
-/// The next token behind blanks, if one begins there and is no word of more than 64 bytes.
+/// The next token after blanks, if one begins there and is no word of more than `WORD_LIMIT` bytes.
 fn next_token(bytes: &[u8], start: usize) -> Option<Token>
     requires size { length bytes.now < 2 ^ 32 }
     requires start_in { start ≤ length bytes.now }
@@ -84,7 +80,7 @@ fn next_token(bytes: &[u8], start: usize) -> Option<Token>
 {
     let rest = from_place(bytes, start);
     let len = first_token(rest)?;
-    if len > LONGEST_WORD {
+    if len > WORD_LIMIT {
         return None;
     }
     let end = start + len;
@@ -96,8 +92,8 @@ fn next_token(bytes: &[u8], start: usize) -> Option<Token>
     })
 }
 
-/// The tokens of a text; `None` exactly where some byte begins no token, a word has more than 64
-/// bytes, or more than 200 brackets are open at once. One pass.
+/// The tokens of an input; `None` exactly where some byte begins no token, a word has more than `WORD_LIMIT` bytes, or
+/// more than `BRACKET_LIMIT` brackets are open at once. One pass.
 pub(crate) fn lex(alloc: Global, bytes: &[u8]) -> Result<Option<Vec<Token>>, NoMemory>
     requires { length bytes.now < 2 ^ 32 }
     ensures some { IfOk result (λ r. IfSome r (λ tokens. IsLexed bytes.now (all_seen bytes.now tokens.items))) }
@@ -116,7 +112,7 @@ pub(crate) fn lex(alloc: Global, bytes: &[u8]) -> Result<Option<Vec<Token>>, NoM
             return Ok(None);
         };
         depth = opened(depth, token.kind);
-        if depth > DEEPEST {
+        if depth > BRACKET_LIMIT {
             return Ok(None);
         }
         tokens.push(token)?;
@@ -124,10 +120,7 @@ pub(crate) fn lex(alloc: Global, bytes: &[u8]) -> Result<Option<Vec<Token>>, NoM
     }
 }
 
-/// A text has at most one list of tokens.
+/// An input has at most one list of tokens.
 pub fn one_token_list()
     ensures { OneTokenList }
 {}
-
-#[cfg(test)]
-mod tests;

@@ -8,6 +8,7 @@ mod definitions;
 mod first;
 mod laws;
 mod lexer;
+mod limits;
 mod reader;
 mod redirect;
 mod refusal;
@@ -17,7 +18,5 @@ mod token;
 pub use first::{First, FirstPut};
 pub use laws::{places_agree, trees_agree};
 pub use lexer::one_token_list;
+pub use limits::{ARGUMENT_LIMIT, BRACKET_LIMIT, COMMAND_LIMIT, INPUT_LIMIT, WORD_LIMIT};
 pub use reader::{one_script, read_first};
-
-#[cfg(test)]
-mod tests;

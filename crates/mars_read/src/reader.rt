@@ -1,4 +1,4 @@
-//! The reader of the first form: from left to right, one token ahead.
+//! The reader of an input: from left to right, one token ahead.
 ghost use Rattle.std.specs.Prelude.{◌≡◌, ℕ, List, ◌+◌, ◌-◌, ◌^◌, ◌<◌, ◌≤◌, [], ◌∷◌, length, Some, None, IfOk, IfErr, IfSome, IfNone};
 ghost use Rattle.mars_read.specs.Written.{WrittenPut};
 ghost use Rattle.mars_read.specs.Token.{Token, Name, Ends};
@@ -11,6 +11,7 @@ use crate::cursor::Cursor;
 use crate::definitions::read_rest;
 use crate::first::{First, FirstPut};
 use crate::lexer::lex;
+use crate::limits::{COMMAND_LIMIT, INPUT_LIMIT};
 use crate::refusal::Refusal;
 use crate::terms::read_term;
 use crate::token::Kind;
@@ -19,12 +20,7 @@ use mars_tree::{NameId, Names};
 use sqlite_items::Items;
 use std::alloc::Global;
 
-/// How many bytes a text has at most.
-const MOST_BYTES: usize = 1_048_576;
-/// How many commands a session has at most.
-const MOST_COMMANDS: usize = 256;
-
-/// NAME TREE `;`, behind the word `put`.
+/// NAME TREE `;`, after the word `put`.
 fn read_put(alloc: Global, tokens: &mut Cursor, names: &mut Names) -> Result<FirstPut, Refusal>
     requires { length names.old + length tokens.old < 2 ^ 32 - 1 }
     ensures read { IfOk result
@@ -41,7 +37,7 @@ fn read_put(alloc: Global, tokens: &mut Cursor, names: &mut Names) -> Result<Fir
     Ok(FirstPut { name, graph, root })
 }
 
-/// Commands, to the word `end` behind them.
+/// Commands, up to the word `end` after them.
 fn read_puts(
     alloc: Global,
     tokens: &mut Cursor,
@@ -55,7 +51,7 @@ fn read_puts(
 {
     let mut puts = Items::new(alloc);
     while !tokens.takes(Kind::Ends) {
-        if puts.len() >= MOST_COMMANDS {
+        if puts.len() >= COMMAND_LIMIT {
             return Err(Refusal::Form);
         }
         tokens.word(b"put")?;
@@ -65,7 +61,7 @@ fn read_puts(
     Ok(puts)
 }
 
-/// `session` NAME, the commands and `end`, behind `rules`.
+/// `session` NAME, the commands and `end`, after `rules`.
 fn read_session(
     alloc: Global,
     tokens: &mut Cursor,
@@ -84,7 +80,7 @@ fn read_session(
     Ok((session, puts))
 }
 
-/// A whole text.
+/// A whole input.
 pub(crate) fn read_script(alloc: Global, tokens: &mut Cursor) -> Result<First, Refusal>
     requires { length tokens.old ≤ 2 ^ 20 }
     ensures read { IfOk result (λ first. ReadsScript tokens.old first) }
@@ -109,15 +105,15 @@ pub(crate) fn read_script(alloc: Global, tokens: &mut Cursor) -> Result<First, R
     })
 }
 
-/// What a text of the first form says; `None` exactly where the bytes are no such text. One pass,
-/// linear in the bytes.
+/// What an input says; `None` exactly where the bytes aren't of its form. One pass, linear in the bytes. The one error is
+/// out of memory.
 pub fn read_first(alloc: Global, bytes: &[u8]) -> Result<Option<First>, NoMemory>
     ensures read { IfOk result (λ found. IfSome found (IsReadFrom bytes.now)) }
     ensures refused { IfOk result (λ found. IfNone found (IsNoFirstForm bytes.now)) }
     ensures size { IfOk result
         (λ found. IfSome found (λ first. nodes_in first.puts ≤ length bytes.now)) }
 {
-    if bytes.len() > MOST_BYTES {
+    if bytes.len() > INPUT_LIMIT {
         return Ok(None);
     }
     let Some(tokens) = lex(alloc, bytes)? else {
@@ -130,7 +126,7 @@ pub fn read_first(alloc: Global, bytes: &[u8]) -> Result<Option<First>, NoMemory
     }
 }
 
-/// A text says one thing.
+/// An input says one thing.
 pub fn one_script()
     ensures { OneScript }
 {}

@@ -1,10 +1,10 @@
-//! Why a text isn't read.
+//! Why an input isn't read.
 ghost use Rattle.std.specs.Prelude.{◌≡◌};
 
 use mars_base::NoMemory;
 use std::alloc::{AllocError, AllocFailed};
 
-/// Why a text isn't read: it isn't of the form, or there was no memory.
+/// Why an input isn't read: it isn't of the form, or memory ran out.
 #[derive(Clone, Copy, Debug, PartialEq, Eq)]
 pub(crate) enum Refusal {
     Form,

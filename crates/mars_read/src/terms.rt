@@ -7,13 +7,11 @@ ghost use Rattle.mars_read.specs.Reading.{OnForm, IsNotNext, view, ReadsTerm, Re
 
 use crate::builder::TreeBuilder;
 use crate::cursor::Cursor;
+use crate::limits::ARGUMENT_LIMIT;
 use crate::refusal::Refusal;
 use crate::token::Kind;
 use mars_tree::{Label, NameId, Names};
 use std::alloc::Global;
-
-/// How many arguments a name has at most.
-const MOST_ARGUMENTS: usize = 16;
 
 /// TERM: the node that stands for it.
 #[cycle(terms)]
@@ -39,7 +37,7 @@ pub(crate) fn read_term(
     }
 }
 
-/// What stands behind a NAME, if anything does that belongs to it: the node of the whole TERM.
+/// The arguments after a NAME, if it has any: the node of the whole TERM.
 #[cycle(terms)]
 pub(crate) fn read_named(
     alloc: Global,
@@ -62,7 +60,7 @@ pub(crate) fn read_named(
     }
 }
 
-/// TERM {`,` TERM} and `)`, behind NAME and `(`: the node of the whole TERM.
+/// TERM {`,` TERM} and `)`, after NAME and `(`: the node of the whole TERM.
 #[cycle(terms)]
 fn read_row(
     alloc: Global,
@@ -84,13 +82,13 @@ fn read_row(
         if !tokens.takes(Kind::Comma) {
             return close_row(name, &kids, tokens, builder);
         }
-        if kids.len() >= MOST_ARGUMENTS {
+        if kids.len() >= ARGUMENT_LIMIT {
             return Err(Refusal::Form);
         }
     }
 }
 
-/// The bracket behind arguments: the node of the name above them.
+/// The bracket after arguments: the node of the name above them.
 fn close_row(
     name: NameId,
     kids: &[usize],

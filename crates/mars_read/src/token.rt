@@ -1,4 +1,4 @@
-//! Tokens of the first form by their kinds and places, and the kind of a text.
+//! Tokens by their kinds and places, and the kind of a token's bytes.
 ghost use Rattle.std.specs.Prelude.{◌≡◌, ℕ, List, ◌∷◌};
 ghost use Rattle.mars_read.specs.Token.{are_digits_and_primes, is_variable, is_identifier, spelled, word_token, sign_of, token_of};
 ghost use Rattle.mars_read.specs.Seen.{token_named, text_at, LiesWithin};
@@ -116,7 +116,7 @@ fn kind_of_sign(b: u8) -> Kind
     }
 }
 
-/// The kind of the token that a text is.
+/// The kind of the token that bytes are.
 pub(crate) fn kind_of(text: &[u8]) -> Kind
     ensures { token_named result text.now ≡ token_of text.now }
 {

@@ -12,7 +12,7 @@ pub read_script-requires : goal.read_script-requires
 read_script-requires c =
     read-short c.args.bytes.now c.new.result
     (along c.args.bytes.now (all_seen c.args.bytes.now c.in-Some.tokens.items) c.new.result (c.new.ensures ∙ ap (all_seen c.args.bytes.now) c.deref.ensures.value) (rw c.in-Some.is at c.in_ok-tokens.ensures.some))
-    c.if-bytes-gt-MOST_BYTES.false
+    c.if-bytes-gt-INPUT_LIMIT.false
 
 pub returns-in-Ok-clause-size : goal.returns-in-Ok-clause-size
 returns-in-Ok-clause-size c =
@@ -24,7 +24,7 @@ pub returns-in-Ok-clause-read : goal.returns-in-Ok-clause-read
 returns-in-Ok-clause-read c =
     read-from c.args.bytes.now c.new.result
     (along c.args.bytes.now (all_seen c.args.bytes.now c.in-Some.tokens.items) c.new.result (c.new.ensures ∙ ap (all_seen c.args.bytes.now) c.deref.ensures.value) (rw c.in-Some.is at c.in_ok-tokens.ensures.some))
-    c.in-Ok.first c.if-bytes-gt-MOST_BYTES.false c.in-Ok.ensures.read
+    c.in-Ok.first c.if-bytes-gt-INPUT_LIMIT.false c.in-Ok.ensures.read
 
 pub returns-in-Err-Form-clause-refused : goal.returns-in-Err-Form-clause-refused
 returns-in-Err-Form-clause-refused c =

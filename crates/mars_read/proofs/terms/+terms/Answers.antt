@@ -31,12 +31,12 @@ read_row-loop-kids-init t c = rw c.new-kids.ensures.items (row-begins c.args.tok
 pub read_row-loop-kids-preserved : goal.read_row-loop-kids-preserved
 read_row-loop-kids-preserved t c = rw c.in_ok-push.ensures.items
     (row-more _ _ _ c.loop-kids.kids.items c.in_ok-kid.kid c.loop-kids.invariant c.in_ok-kid.ensures.read c.takes.new.self c.if-not-takes.ensures.taken
-    (omega (arith, c.len.ensures, c.if-len-ge-MOST_ARGUMENTS.false, c.push.new.self.ok.0, ap length c.in_ok-push.ensures.items)))
+    (omega (arith, c.len.ensures, c.if-len-ge-ARGUMENT_LIMIT.false, c.push.new.self.ok.0, ap length c.in_ok-push.ensures.items)))
 
-pub read_row-returns-then-len-ge-MOST_ARGUMENTS-clause-refused : goal.read_row-returns-then-len-ge-MOST_ARGUMENTS-clause-refused
-read_row-returns-then-len-ge-MOST_ARGUMENTS-clause-refused t c =
+pub read_row-returns-then-len-ge-ARGUMENT_LIMIT-clause-refused : goal.read_row-returns-then-len-ge-ARGUMENT_LIMIT-clause-refused
+read_row-returns-then-len-ge-ARGUMENT_LIMIT-clause-refused t c =
     row-over _ _ _ c.loop-kids.kids.items c.in_ok-kid.kid c.loop-kids.invariant c.in_ok-kid.ensures.read c.takes.new.self c.if-not-takes.ensures.taken
-    (omega (arith, c.len.ensures, c.if-len-ge-MOST_ARGUMENTS.true, c.push.new.self.ok.0, ap length c.in_ok-push.ensures.items))
+    (omega (arith, c.len.ensures, c.if-len-ge-ARGUMENT_LIMIT.true, c.push.new.self.ok.0, ap length c.in_ok-push.ensures.items))
 
 pub read_row-returns-then-not-takes-clause-read : goal.read_row-returns-then-not-takes-clause-read
 read_row-returns-then-not-takes-clause-read t c = IfOk-weaker c.close_row.result _ _
