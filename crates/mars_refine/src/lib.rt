@@ -14,6 +14,3 @@ mod writes;
 
 pub use classes::Classes;
 pub use refine::classes_by_tree;
-
-#[cfg(test)]
-mod tests;
