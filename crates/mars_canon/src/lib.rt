@@ -13,6 +13,3 @@ pub use laws::{
 };
 pub use rooted::Canon;
 pub use tree::{MOST_NODES, Tree};
-
-#[cfg(test)]
-mod tests;

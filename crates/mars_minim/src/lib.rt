@@ -4,6 +4,3 @@
 mod smallest;
 
 pub use smallest::{Minimal, minimise};
-
-#[cfg(test)]
-mod tests;

@@ -12,6 +12,3 @@ pub use order::Order;
 pub use queue::reached;
 pub use renumber::{RootedGraph, part, rooted_part};
 pub use roots::Roots;
-
-#[cfg(test)]
-mod tests;

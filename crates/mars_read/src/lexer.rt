@@ -124,6 +124,3 @@ pub(crate) fn lex(alloc: Global, bytes: &[u8]) -> Result<Option<Vec<Token>>, NoM
 pub fn one_token_list()
     ensures { OneTokenList }
 {}
-
-#[cfg(test)]
-mod tests;

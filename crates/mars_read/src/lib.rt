@@ -20,6 +20,3 @@ pub use laws::{places_agree, trees_agree};
 pub use lexer::one_token_list;
 pub use limits::{ARGUMENT_LIMIT, BRACKET_LIMIT, COMMAND_LIMIT, INPUT_LIMIT, WORD_LIMIT};
 pub use reader::{one_script, read_first};
-
-#[cfg(test)]
-mod tests;

@@ -13,6 +13,3 @@ mod writes;
 
 pub use classes::Classes;
 pub use refine::classes_by_tree;
-
-#[cfg(test)]
-mod tests;

@@ -16,6 +16,3 @@ pub use laws::{examples, one_canonical_graph, one_canonical_graph_of_trees, shor
 pub use names::Names;
 pub use numbers::{NewNumbers, NodeNumber, push_renumbered};
 pub use sameness::same;
-
-#[cfg(test)]
-mod tests;

@@ -1,0 +1,157 @@
+//! Rows on components: `components NODES`, `key NODE : NUMBERS : NODES` and `leastkey NODE : NUMBERS : NODES`, where the
+//! numbers are those that each node has outside its component.
+ghost use Rattle.std.specs.Prelude.{◌≡◌, length, IfOk};
+
+use mars_base::NoMemory;
+use mars_comp::{Components, Item, Key, components, key, least};
+use mars_tree::{Graph, Names};
+use rows::{Layout, Stop, push_label, push_number, push_numbers, read_nodes, read_numbers};
+use std::alloc::Global;
+
+/// The component of a node, none where there is no such node.
+fn number_at(parts: &Components, node: usize) -> Option<usize> {
+    if node < parts.len() {
+        Some(parts.of(node))
+    } else {
+        None
+    }
+}
+
+/// Whether each kid's component has at most the number of its parent's.
+fn are_kids_first(graph: &Graph, parts: &Components) -> bool {
+    for node in 0..graph.len() {
+        for kid in graph.kids(node) {
+            if number_at(parts, *kid) > number_at(parts, node) {
+                return false;
+            }
+        }
+    }
+    true
+}
+
+/// Writes the nodes of a node's component, where it is the first of them.
+fn push_component(parts: &Components, node: usize, into: &mut Vec<u8>) -> Result<(), Stop> {
+    let number = number_at(parts, node);
+    for other in 0..parts.len() {
+        let is_inner = number_at(parts, other) == number;
+        if is_inner && other < node {
+            return Ok(());
+        }
+        if is_inner {
+            into.extend_from_slice(if other == node { b" {" } else { b" " })?;
+            push_number(other, into)?;
+        }
+    }
+    into.extend_from_slice(b"}")?;
+    Ok(())
+}
+
+/// Answers with the nodes of each component, and with whether kids' components come first.
+pub fn answer_components(alloc: Global, rest: &str, into: &mut Vec<u8>) -> Result<(), Stop> {
+    let laid = read_nodes(alloc, rest)?;
+    let parts = components(alloc, &laid.graph)?;
+    into.extend_from_slice(if are_kids_first(&laid.graph, &parts) {
+        b"kids first"
+    } else {
+        b"kids later"
+    })?;
+    for node in 0..parts.len() {
+        push_component(&parts, node, into)?;
+    }
+    Ok(())
+}
+
+/// Writes an item of a key: a label, `@` and a place in the key, or a number outside.
+fn push_item(names: &Names, item: Item, into: &mut Vec<u8>) -> Result<(), NoMemory> {
+    match item {
+        Item::Node(label) => push_label(names, label, into)?,
+        Item::Inner(place) => {
+            into.extend_from_slice(b"@")?;
+            push_number(place, into)?;
+        }
+        Item::Outer(number) => {
+            into.extend_from_slice(format!(in *into.allocator(); "{number}")?.as_bytes())?
+        }
+    }
+    Ok(())
+}
+
+/// Writes the items of a key.
+fn push_key(names: &Names, key: &Key, into: &mut Vec<u8>) -> Result<(), NoMemory> {
+    for item in &key.items {
+        push_item(names, *item, into)?;
+        into.extend_from_slice(b" ")?;
+    }
+    Ok(())
+}
+
+/// A row's graph with a node, and a number for each node.
+#[derive(Drop)]
+struct Keyed {
+    laid: Layout,
+    node: usize,
+    outside: Vec<u128>,
+}
+
+/// The numbers as wide ones.
+fn widened(alloc: Global, numbers: &[usize]) -> Result<Vec<u128>, NoMemory> {
+    let mut all = Vec::new(alloc);
+    for number in numbers {
+        all.push(*number as u128)?;
+    }
+    Ok(all)
+}
+
+/// Reads `NODE : NUMBERS : NODES`.
+fn read_keyed(alloc: Global, rest: &str) -> Result<Keyed, Stop> {
+    let Some((node, rest)) = rest.split_once(':') else {
+        return Err(Stop::OtherParts);
+    };
+    let Some((outside, nodes)) = rest.split_once(':') else {
+        return Err(Stop::OtherParts);
+    };
+    let Ok(node) = node.trim().parse::<usize>() else {
+        return Err(Stop::NoNode);
+    };
+    Ok(Keyed {
+        laid: read_nodes(alloc, nodes)?,
+        node,
+        outside: widened(alloc, &read_numbers(alloc, outside)?)?,
+    })
+}
+
+/// Answers with the key of a node's component from that node.
+pub fn answer_key(alloc: Global, rest: &str, into: &mut Vec<u8>) -> Result<(), Stop> {
+    let Keyed {
+        laid,
+        node,
+        outside,
+    } = read_keyed(alloc, rest)?;
+    let graph = &laid.graph;
+    let parts = components(alloc, graph)?;
+    if node >= graph.len() || parts.len() != graph.len() || outside.len() != graph.len() {
+        return Err(Stop::OtherParts);
+    }
+    let key = key(alloc, graph, &parts, node, &outside)?;
+    push_key(&laid.names, &key, into)?;
+    Ok(())
+}
+
+/// Answers with the least key of a node's component, and with the nodes at its places.
+pub fn answer_least_key(alloc: Global, rest: &str, into: &mut Vec<u8>) -> Result<(), Stop> {
+    let Keyed {
+        laid,
+        node,
+        outside,
+    } = read_keyed(alloc, rest)?;
+    let graph = &laid.graph;
+    let parts = components(alloc, graph)?;
+    if node >= graph.len() || parts.len() != graph.len() || outside.len() != graph.len() {
+        return Err(Stop::OtherParts);
+    }
+    let first = least(alloc, graph, &parts, node, &outside)?;
+    push_key(&laid.names, &first.key, into)?;
+    into.extend_from_slice(b"from ")?;
+    push_numbers(&first.nodes, b" ", into)?;
+    Ok(())
+}

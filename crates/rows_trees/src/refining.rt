@@ -1,0 +1,52 @@
+//! Rows on the classes of nodes that are one tree: `classes NODES` lists them, `count TREE` counts those of a whole graph.
+use mars_refine::classes_by_tree;
+use rows::{Stop, push_number, read_nodes, read_operands};
+use std::alloc::Global;
+
+/// Whether a node is one of the members.
+fn holds(members: &[u32], node: usize) -> bool {
+    members.iter().any(|member| *member as usize == node)
+}
+
+/// Writes the members of a class, of so many nodes, where this node is the least of them.
+fn push_class(members: &[u32], node: usize, count: usize, into: &mut Vec<u8>) -> Result<(), Stop> {
+    for other in 0..count {
+        if other < node && holds(members, other) {
+            return Ok(());
+        }
+        if holds(members, other) {
+            into.extend_from_slice(if other == node { b" {" } else { b" " })?;
+            push_number(other, into)?;
+        }
+    }
+    into.extend_from_slice(b"}")?;
+    Ok(())
+}
+
+/// Answers with how many classes there are, and with the members of each.
+pub fn answer_classes(alloc: Global, rest: &str, into: &mut Vec<u8>) -> Result<(), Stop> {
+    let laid = read_nodes(alloc, rest)?;
+    let classes = classes_by_tree(alloc, &laid.graph)?;
+    push_number(classes.count(), into)?;
+    into.extend_from_slice(b" classes")?;
+    let count = laid.graph.len();
+    for node in 0..count {
+        let class = classes.of(node);
+        push_class(classes.members(class), node, count, into)?;
+    }
+    Ok(())
+}
+
+/// Answers with how many nodes a graph has, and how many trees they are.
+pub fn answer_count(alloc: Global, rest: &str, into: &mut Vec<u8>) -> Result<(), Stop> {
+    let trees = read_operands(alloc, rest)?;
+    let [tree] = trees.all.as_slice() else {
+        return Err(Stop::OtherParts);
+    };
+    let classes = classes_by_tree(alloc, &tree.graph)?;
+    push_number(tree.graph.len(), into)?;
+    into.extend_from_slice(b" nodes, ")?;
+    push_number(classes.count(), into)?;
+    into.extend_from_slice(b" trees")?;
+    Ok(())
+}
