@@ -1,15 +1,26 @@
 //! Rows on the classes of nodes that are one tree: `classes NODES` lists them, `count TREE` counts those of a whole graph.
+use mars_base::NumberPart;
 use mars_refine::classes_by_tree;
 use rows::{Stop, push_number, read_nodes, read_operands};
 use std::alloc::Global;
 
 /// Whether a node is one of the members.
-fn holds(members: &[u32], node: usize) -> bool {
-    members.iter().any(|member| *member as usize == node)
+fn holds(members: &NumberPart<'_>, node: usize) -> bool {
+    for place in 0..members.len() {
+        if members.get(place) == node {
+            return true;
+        }
+    }
+    false
 }
 
 /// Writes the members of a class, of so many nodes, where this node is the least of them.
-fn push_class(members: &[u32], node: usize, count: usize, into: &mut Vec<u8>) -> Result<(), Stop> {
+fn push_class(
+    members: &NumberPart<'_>,
+    node: usize,
+    count: usize,
+    into: &mut Vec<u8>,
+) -> Result<(), Stop> {
     for other in 0..count {
         if other < node && holds(members, other) {
             return Ok(());
@@ -32,7 +43,7 @@ pub fn answer_classes(alloc: Global, rest: &str, into: &mut Vec<u8>) -> Result<(
     let count = laid.graph.len();
     for node in 0..count {
         let class = classes.of(node);
-        push_class(classes.members(class), node, count, into)?;
+        push_class(&classes.members(class), node, count, into)?;
     }
     Ok(())
 }
