@@ -4,8 +4,8 @@ use Rattle.std.specs.Io.KnownBytes.{Appends, Consumes, IsAtEnd}
 use Rattle.mars_io.specs.Sink.{AppendsPrefix}
 use Rattle.mars_io.specs.Whole.{HasRead}
 use Rattle.mars_read.specs.declared.first.First.{First}
+use Rattle.mars_read.specs.declared.limits.TheConstants.{INPUT_LIMIT}
 use Rattle.mars_read.specs.First.{IsReadFrom, IsNoFirstForm}
-use Rattle.marseille.specs.declared.top.TheConstants.{INPUT_LIMIT}
 use Rattle.marseille.specs.Words.{AreWords}
 use Rattle.marseille.specs.Run.{IsRun}
 

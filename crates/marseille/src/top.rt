@@ -13,11 +13,8 @@ use crate::status::{Outcome, Status};
 use crate::words::are_words;
 use mars_base::NoMemory;
 use mars_io::{Put, Sink, Source, SourceError, read_whole};
-use mars_read::read_first;
+use mars_read::{INPUT_LIMIT, read_first};
 use std::alloc::Global;
-
-/// The most bytes that an input may have.
-pub const INPUT_LIMIT: usize = 1_048_576;
 
 /// The output of the run of an input; `None` exactly where the bytes aren't of the form.
 fn run_input(alloc: Global, bytes: &[u8]) -> Result<Option<Vec<u8>>, NoMemory>
