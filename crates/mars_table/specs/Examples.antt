@@ -3,7 +3,7 @@ use Rattle.std.specs.Prelude.{◌≡◌, ℕ, List, [], ◌∷◌}
 use Rattle.mars_tree.specs.declared.label.Label.TheVariants.{Dot}
 use Rattle.mars_tree.specs.Graph.{Node, labelled}
 use Rattle.mars_tree.specs.Examples.{named, loop}
-use Rattle.mars_canon.specs.Examples.{two_items}
+use Rattle.mars_canon.specs.Examples.{list_of_two}
 use Rattle.mars_table.specs.Object.{TableObject, Interned, empty_table, intern, sweep, swept, counts_of}
 use Rattle.mars_table.specs.Object.Interned.{kept, full}
 use Rattle.mars_table.specs.SoundLaws.{table_after}
@@ -31,13 +31,13 @@ pub record Examples : Type 0 where
   pub loop_again : answered_number (intern (table_after_trees 9 (loop ∷ [])) 0 loop) ≡ 0
   pub loop_counts : counts_of (table_after_trees 9 (loop ∷ loop ∷ [])) ≡ (1, 2)
   -- the second tree occurs inside the first
-  pub first_number : answered_number (intern (empty_table 9) 0 two_items) ≡ 0
-  pub inner_number : answered_number (intern (table_after_trees 9 (two_items ∷ [])) 0 one_item) ≡ 2
-  pub inner_counts : counts_of (table_after_trees 9 (one_item ∷ two_items ∷ [])) ≡ (5, 2)
+  pub first_number : answered_number (intern (empty_table 9) 0 list_of_two) ≡ 0
+  pub inner_number : answered_number (intern (table_after_trees 9 (list_of_two ∷ [])) 0 one_item) ≡ 2
+  pub inner_counts : counts_of (table_after_trees 9 (one_item ∷ list_of_two ∷ [])) ≡ (5, 2)
   -- five nodes don't fit into four rows
-  pub too_many : intern (empty_table 4) 0 two_items ≡ full 0 5 4
+  pub too_many : intern (empty_table 4) 0 list_of_two ≡ full 0 5 4
   -- a sweep keeps what a pin reaches, and takes a cycle that none reaches
-  pub nothing_swept : swept (table_after_trees 9 (two_items ∷ [])) ≡ 0
+  pub nothing_swept : swept (table_after_trees 9 (list_of_two ∷ [])) ≡ 0
   pub loop_swept : swept (without_pins (table_after_trees 9 (loop ∷ []))) ≡ 1
   -- a number isn't given again
   pub next_number : answered_number (intern (sweep (without_pins (table_after_trees 9 (one_item ∷ [])))) 0 loop) ≡ 3
