@@ -5,6 +5,5 @@ pub mod Status
 pub mod Text
 pub mod Top
 pub mod Words
-
 -- Inside: what holds while commands run, promised to nobody.
 pub mod RunInside
