@@ -4,6 +4,7 @@ use Rattle.std.proofs.Common.{ap}
 use Rattle.std.specs.Bool.{Decides}
 use Rattle.std.specs.Cmp.{IsEquivalence, IsPartialEquivalence, partial_equiv_from_equiv}
 use Rattle.std.specs.Cmp.Lexicographic.{pointwise, bytes_decides}
+use Rattle.mars_base.proofs.Deciding.{both, joined}
 use Rattle.mars_tree.specs.Graph.{Node}
 use Rattle.mars_tree.specs.Equality.{same_nodes}
 use Rattle.mars_tree.specs.EqualityLaws.{nodes_decide, equivalence_from_decides}
@@ -12,13 +13,6 @@ use Rattle.mars_canon.specs.Tree.{tree_writes}
 
 pub one_rooted : (c d : Rooted) → c.nodes ≡ d.nodes → c.roots ≡ d.roots → c ≡ d
 one_rooted c d e f i = record { nodes = e i; roots = f i }
-
-both : (a b : Bool) → (a && b) ≡ true → (a ≡ true) × (b ≡ true)
-both true b e = (refl, e)
-both false b e = cc
-
-joined : (a b : Bool) → a ≡ true → b ≡ true → (a && b) ≡ true
-joined a b e f = rw (e, f) refl
 
 pub rooted_decides : (c d : Rooted) → Decides (same_rooted c d) (c ≡ d)
 rooted_decides c d = (

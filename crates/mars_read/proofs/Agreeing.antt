@@ -30,6 +30,7 @@ named-of names f count (Some (graph.label (label.Name id arity))) a = record { i
 named-of names f count (Some (graph.label (label.Int value))) a = absurd a
 named-of names f count (Some (graph.label label.Dot)) a = absurd a
 named-of names f count (Some (graph.label (label.Tup arity))) a = absurd a
+named-of names f count (Some (graph.label (label.Str text))) a = absurd a
 named-of names f count (Some (graph.free n)) a = absurd a
 named-of names f count None a = absurd a
 
@@ -40,6 +41,7 @@ free-of names x (Some (graph.label (label.Name id arity))) a = absurd a
 free-of names x (Some (graph.label (label.Int value))) a = absurd a
 free-of names x (Some (graph.label label.Dot)) a = absurd a
 free-of names x (Some (graph.label (label.Tup arity))) a = absurd a
+free-of names x (Some (graph.label (label.Str text))) a = absurd a
 free-of names x None a = absurd a
 
 nothing-of : (names : List (List ℕ)) (p : Option Shown) → ShowsSaid names None p → p ≡ None

@@ -87,6 +87,7 @@ agree-stays grows (Some (name f count)) (Some (graph.label (label.Name id arity)
 agree-stays grows (Some (name f count)) (Some (graph.label (label.Int z))) is = is
 agree-stays grows (Some (name f count)) (Some (graph.label label.Dot)) is = is
 agree-stays grows (Some (name f count)) (Some (graph.label (label.Tup arity))) is = is
+agree-stays grows (Some (name f count)) (Some (graph.label (label.Str text))) is = is
 agree-stays grows (Some (name f count)) (Some (graph.free n)) is = is
 agree-stays grows (Some (free x)) (Some (graph.label l)) is = is
 agree-stays grows (Some (free x)) (Some (graph.free n)) is = is

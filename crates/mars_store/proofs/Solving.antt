@@ -7,7 +7,7 @@ use Rattle.std.proofs.lemmas.List.Elements.{All-head, All-tail, All-get_or, All-
 use Rattle.std.proofs.lemmas.List.FromFn.{length-range_with_len, get_or-range_with_len, length-map-range_with_len, get_or-map-range_with_len}
 use Rattle.std.proofs.lemmas.Option.{slice_get-get_or, slice_get_within, slice_get_past, get_or_from_slice_get, none-some, slice_get_cases}
 use Rattle.mars_tree.specs.declared.label.Label.{Label}
-use Rattle.mars_tree.specs.declared.label.Label.TheVariants.{Name, Int, Dot, Tup}
+use Rattle.mars_tree.specs.declared.label.Label.TheVariants.{Name, Int, Dot, Tup, Str}
 use Rattle.mars_tree.specs.Label.{arity_of}
 use Rattle.mars_tree.specs.Graph.{Node, label as at_label, IsNode, IsGraph, IsGround, label_of, kids_of, free_leaf, arity_at, at, shown_at, end_of}
 use Rattle.mars_store.specs.Valuation.{Valuation, value, Agree, IsValuation}
@@ -32,6 +32,7 @@ number-of (Name name arity) = name.0
 number-of (Int number) = 0
 number-of Dot = 0
 number-of (Tup arity) = 0
+number-of (Str spelling) = 0
 
 pub name-of : (a b : ℕ) → constant a ≡ constant b → a ≡ b
 name-of a b e = ap number-of e

@@ -1,7 +1,7 @@
 -- What the plain valuation tells of all solutions.
 use Rattle.std.specs.Prelude.{◌≡◌, ◌↔◌, ℕ, ◌+◌, ◌<◌, max, List, [], ◌∷◌, length, All, Option, Some, None}
 use Rattle.mars_tree.specs.declared.label.Label.{Label}
-use Rattle.mars_tree.specs.declared.label.Label.TheVariants.{Name, Int, Dot, Tup}
+use Rattle.mars_tree.specs.declared.label.Label.TheVariants.{Name, Int, Dot, Tup, Str}
 use Rattle.mars_tree.specs.Graph.{Node, label as at_label, label_of}
 use Rattle.mars_store.specs.Valuation.{Valuation, value, Agree}
 use Rattle.mars_store.specs.System.{System, IsSystem, resolve}
@@ -35,6 +35,7 @@ past (Some (Name name arity)) = name.0 + 1
 past (Some (Int value)) = 0
 past (Some Dot) = 0
 past (Some (Tup arity)) = 0
+past (Some (Str spelling)) = 0
 past None = 0
 
 -- a number past those of the names in the nodes

@@ -9,13 +9,16 @@ pub use Rattle.mars_base.proofs.Deciding.{equivalence_from_decides}
 use Rattle.mars_base.proofs.Deciding.{both, joined}
 use Rattle.mars_tree.specs.declared.label.NameId.{NameId}
 use Rattle.mars_tree.specs.declared.label.Label.{Label}
-use Rattle.mars_tree.specs.declared.label.Label.TheVariants.{Name, Int, Dot, Tup}
+use Rattle.mars_tree.specs.declared.label.Label.TheVariants.{Name, Int, Dot, Tup, Str}
 use Rattle.mars_tree.specs.Graph.{Node}
 use Rattle.mars_tree.specs.NamesEquality.{same_names, names_writes}
 use Rattle.mars_tree.specs.Equality.{same_label, same_node, same_nodes, node_writes}
 
 one_name : (n m : NameId) (k j : ℕ) → n.0 ≡ m.0 → k ≡ j → Name n k ≡ Name m j
 one_name n m k j e f i = Name (record { 0 = e i }) (f i)
+
+one_string : (n m : NameId) → n.0 ≡ m.0 → Str n ≡ Str m
+one_string n m e i = Str (record { 0 = e i })
 
 pub label_decides : (a b : Label) → Decides (same_label a b) (a ≡ b)
 label_decides (Name n k) (Name m j) = (
@@ -27,18 +30,30 @@ label_decides (Name n k) (Name m j) = (
 label_decides (Name n k) (Int m) = (λ e. cc, λ e. cc)
 label_decides (Name n k) Dot = (λ e. cc, λ e. cc)
 label_decides (Name n k) (Tup m) = (λ e. cc, λ e. cc)
+label_decides (Name n k) (Str m) = (λ e. cc, λ e. cc)
 label_decides (Int n) (Name m j) = (λ e. cc, λ e. cc)
 label_decides (Int n) (Int m) = (λ e. ap Int ((signed_Decides n m).0 e), λ e. (signed_Decides n m).1 (cc))
 label_decides (Int n) Dot = (λ e. cc, λ e. cc)
 label_decides (Int n) (Tup m) = (λ e. cc, λ e. cc)
+label_decides (Int n) (Str m) = (λ e. cc, λ e. cc)
 label_decides Dot (Name m j) = (λ e. cc, λ e. cc)
 label_decides Dot (Int m) = (λ e. cc, λ e. cc)
 label_decides Dot Dot = (λ e. refl, λ e. refl)
 label_decides Dot (Tup m) = (λ e. cc, λ e. cc)
+label_decides Dot (Str m) = (λ e. cc, λ e. cc)
 label_decides (Tup n) (Name m j) = (λ e. cc, λ e. cc)
 label_decides (Tup n) (Int m) = (λ e. cc, λ e. cc)
 label_decides (Tup n) Dot = (λ e. cc, λ e. cc)
 label_decides (Tup n) (Tup m) = (λ e. ap Tup ((unsigned_Decides n m).0 e), λ e. (unsigned_Decides n m).1 (cc))
+label_decides (Tup n) (Str m) = (λ e. cc, λ e. cc)
+label_decides (Str n) (Name m j) = (λ e. cc, λ e. cc)
+label_decides (Str n) (Int m) = (λ e. cc, λ e. cc)
+label_decides (Str n) Dot = (λ e. cc, λ e. cc)
+label_decides (Str n) (Tup m) = (λ e. cc, λ e. cc)
+label_decides (Str n) (Str m) = (
+  λ e. one_string n m ((unsigned_Decides n.0 m.0).0 e),
+  λ e. let id : n ≡ m = cc in (unsigned_Decides n.0 m.0).1 (ap (λ (id : NameId). id.0) id),
+)
 
 pub label_at_decides : (a b : Option Label) → Decides (option_eq same_label a b) (a ≡ b)
 label_at_decides None None = (λ e. refl, λ e. refl)

@@ -1,4 +1,5 @@
-//! Labels as rows write them: `dot` with two arguments, `tup` with any number, `int7` and `neg5`, and all other names.
+//! Labels as rows write them: `dot` with two arguments, `tup` with any number, `int7` and `neg5`, `str` and what follows
+//! it without arguments, which is a string, and all other names.
 ghost use Rattle.std.specs.Prelude.{◌<◌};
 
 use crate::graphs::label_at;
@@ -67,6 +68,9 @@ pub fn label_named(names: &Names, name: NameId, arity: u32) -> Label {
     if text == b"tup".as_slice() {
         return Label::Tup(arity);
     }
+    if arity == 0 && text.starts_with(b"str".as_slice()) {
+        return Label::Str(name);
+    }
     match integer_of(text) {
         Some(number) if arity == 0 => Label::Int(number),
         _ => Label::Name { name, arity },
@@ -80,6 +84,7 @@ pub fn push_label(names: &Names, label: Option<Label>, into: &mut Vec<u8>) -> Re
         Some(Label::Int(number)) => push_integer(number, into)?,
         Some(Label::Dot) => into.extend_from_slice(b"dot")?,
         Some(Label::Tup(_)) => into.extend_from_slice(b"tup")?,
+        Some(Label::Str(text)) => into.extend_from_slice(spelled(names, text))?,
         None => into.extend_from_slice(b"_")?,
     }
     Ok(())
