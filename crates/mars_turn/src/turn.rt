@@ -46,6 +46,7 @@ fn one_slot<V: Drop>(alloc: Global, value: V) -> Result<Vec<Option<V>>, AllocErr
 }
 
 impl<V: Listed> Turn<V> {
+    ghost use Rattle.std.specs.Prelude.{◌⊎◌};
     ghost use mathlib.Core.List.{IsPrefix};
     ghost use Rattle.mars_turn.specs.Items.{made_by, AllMade};
     ghost use Rattle.mars_turn.specs.Steps.{opening_view, Enters, Leaves, MayLeave, TakesTurn, after_split, split_off, joined_view, settled_view};
@@ -150,6 +151,7 @@ impl<V: Listed> Turn<V> {
         requires outside { IsOutside (pass_view from) × IsOutside (pass_view into) }
         ensures of { turn_of result ≡ turn_of into }
         ensures joined { pass_view result ≡ settled_view (joined_view (pass_view into) (pass_view from)) }
+        ensures longer { ((pass_view result).seen ≡ (pass_view into).seen) ⊎ ((pass_view result).seen ≡ (pass_view from).seen) }
         ensures seen { IsPrefix (pass_view into).seen (pass_view result).seen × IsPrefix (pass_view from).seen (pass_view result).seen }
     {
         let Pass {
