@@ -1,0 +1,2 @@
+-- Promised: entries.
+pub mod Entries
