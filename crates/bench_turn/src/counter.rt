@@ -1,4 +1,4 @@
-//! What is behind the turn, and behind the lock: a count.
+//! What a turn, or a lock, keeps: a count.
 ghost use Rattle.std.specs.Prelude.{◌≡◌, [], List};
 
 use mars_turn::Listed;

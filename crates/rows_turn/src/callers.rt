@@ -1,4 +1,4 @@
-//! Callers that put items into a history behind a turn, each with a pass of its own.
+//! Callers that put items into a history with a turn, each with a pass of its own.
 ghost use Rattle.std.specs.Prelude.{◌≡◌};
 ghost use Rattle.mars_turn.specs.Passes.{turn_id, MayEnter};
 

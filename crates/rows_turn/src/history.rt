@@ -34,8 +34,6 @@ impl Listed for History {
 }
 
 impl History {
-    ghost use Rattle.rows_turn.specs.Entries.{entry};
-
     /// A history without entries.
     pub(crate) fn new(alloc: Global, limit: u64) -> History
         ensures { result.entries.items ≡ [] }
@@ -48,7 +46,7 @@ impl History {
 
     /// Adds an entry at the end.
     pub(crate) fn append(&mut self, who: u32, item: u64) -> Result<(), NoMemory>
-        ensures ok { OnOk result (self.new.entries.items ≡ self.old.entries.items ++ entry who item ∷ []) }
+        ensures ok { OnOk result (self.new.entries.items ≡ self.old.entries.items ++ record { who = who; item = item } ∷ []) }
         ensures err { OnErr result (self.new.entries.items ≡ self.old.entries.items) }
         ensures limit { self.new.limit ≡ self.old.limit }
     {

@@ -1,2 +1,0 @@
--- Promised: entries.
-pub mod Entries
