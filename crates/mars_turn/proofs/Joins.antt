@@ -1,4 +1,4 @@
--- Joining two passes keeps the rule, and so does the look behind it.
+-- Joining two passes keeps the rule, and so does the load after it.
 use native.Mathlib.Decide.{ℕ_discrete}
 use mathlib.Core.Logic.{dite}
 use Rattle.std.proofs.Common.{◌≡◌, ℕ, ◌+◌, ◌≤◌, List, [], ◌∷◌, Bool, true, false, refl, sym, ap, ◌∙◌, arith, set, map, length, length-append, ltb-true, true≢false, ◌⊎◌, inl, inr, ltb-false, subst, ◌≢◌}

@@ -39,7 +39,7 @@ module _ {A : Type 0} (F : A → Type 0) where
   pub each_set : (xs : List A) (i : ℕ) (w : A) → F w → ((j : ℕ) (u : A) → j ≢ i → get_elem? xs j ≡ some u → F u) → (j : ℕ) (u : A) → get_elem? (set xs i w) j ≡ some u → F u
   each_set xs i w mine others j u e = ⊎_elim (λ (x : (j ≡ i) × (w ≡ u)). subst F x.1 mine) (λ (x : (j ≢ i) × (get_elem? xs j ≡ some u)). others j u x.0 x.1) (at_set xs i j w u e)
 
-  -- and after one came behind the others
+  -- and after one came after the others
   pub each_snoc : (xs : List A) (w : A) → F w → ((j : ℕ) (u : A) → get_elem? xs j ≡ some u → F u) → (j : ℕ) (u : A) → get_elem? (xs ++ w ∷ []) j ≡ some u → F u
   each_snoc xs w mine others j u e = ⊎_elim (λ (x : get_elem? xs j ≡ some u). others j u x) (λ (x : w ≡ u). subst F x mine) (at_snoc xs w u j e)
 
@@ -102,7 +102,7 @@ module _ {X : Type 0} (by : X → ℕ) where
       let none : made_by by k more ≡ [] = nil_from_length (made_by by k more) (omega (arith, ly, lz, length-append mine (made_by by k more), length-append (made_by by k ys) (made_by by k rest))) in
       y ∙ ap (λ (l : List X). mine ++ l) none ∙ append-nil mine
 
-  -- the lists of callers that don't stand there are as they were
+  -- the lists of callers that are not listed are as they were
   pub AllMade-other : (ended : List (ℕ × List X)) (log : List X) (x : X) → times (by x) (map number_of_ended ended) ≡ 0 → AllMade by log ended → AllMade by (log ++ x ∷ []) ended
   AllMade-other [] log x none all = All-nil (λ (e : ℕ × List X). made_by by e.0 (log ++ x ∷ []) ≡ e.1)
   AllMade-other (e ∷ es) log x none all =

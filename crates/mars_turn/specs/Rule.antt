@@ -56,7 +56,8 @@ module _ {X : Type 0} where
   abbrev pub EndedItems : (X → ℕ) → List (PassView X) → List X → Type 0
   EndedItems by views log = EachPass (λ v. AllMade by log v.ended) views
 
-  -- 5. One view says how many passes there are, which is so. Their numbers, of live and ended ones, are those below it, each once. Numbers from it on have no items.
+  -- 5. One view says how many passes there are, and it is so. The numbers of the passes, live and ended, are those below it, each once.
+  -- Numbers from it on have no items.
   pub record Numbered (by : X → ℕ) (views : List (PassView X)) (log : List X) (made : ℕ) : Type 0 where
     pub one_counts : total counts_in views ≡ 1
     pub count : EachPass (λ v. (n : ℕ) → v.made ≡ Some n → n ≡ made) views
@@ -65,7 +66,9 @@ module _ {X : Type 0} where
     pub none_past : (k : ℕ) → made ≤ k → made_by by k log ≡ []
     pub few : made ≤ 2 ^ 32
 
--- 6. While word 0 is free, the value is at home, and its list is the longest that was seen. While it is held, the value is with the pass that is inside, and the longest list is the one that it found. All have the `fixed` of the value of `open`.
+-- 6. While word 0 is 0, the value is at home, and its list is the longest that was seen.
+-- While it is 1, the value is with the pass that is inside, and the longest list is the one that this pass found.
+-- All have the `fixed` of the value of `open`.
 pub record ValueKept {A X : Type 0} (list : A → List X) (fixed : A → ℕ) (f : ℕ) (homes : List (maybe.Option (Option A))) (views : List (PassView X)) (log : List X) (held : ℕ) : Type 0 where
   pub home : held ≡ 0 → (y : A) × (homes ≡ some (Some y) ∷ []) × (list y ≡ log) × (fixed y ≡ f)
   pub out : held ≡ 1 → homes ≡ none ∷ []

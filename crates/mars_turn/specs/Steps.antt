@@ -1,6 +1,6 @@
 -- What the seven kinds of atomic step do to what the passes know.
--- Split: a load of word 0. Take the turn: a compare and exchange of word 0. Slot out, slot in: the value leaves the slot, and comes back; no view changes.
--- Give back: a swap of word 0. Join: a load of word 0. Load: a load of word 0.
+-- Split, join and load are loads of word 0; take the turn is a compare and exchange of it, from 0 to 1; give back is a swap of it, to 0.
+-- Slot out and slot in take the value out of its place and put it there again; they change no view.
 use Rattle.std.specs.Prelude.{◌≡◌, ◌⊎◌, ℕ, ◌+◌, ◌^◌, ◌≤◌, List, [], ◌∷◌, ◌++◌, length, Option, Some, None, true, false, nat_lt, if◌then◌else◌}
 use mathlib.Core.List.{IsPrefix}
 use Rattle.atomic_table.specs.Table.{Me, Step}
@@ -39,7 +39,8 @@ module _ {X : Type 0} where
   abbrev pub split_off : PassView X → PassView X
   split_off v = new_view (passes_known v.made) v.fixed v.seen
 
-  -- Join: the longer of the two lists is the one that the pass has seen, the shorter is kept until the load; it takes in what ended, and the count of passes.
+  -- Join: the longer of the two lists is the one that the pass has seen, the shorter is kept until the load.
+  -- The pass takes in the other, what ended in it, and the count of passes.
   abbrev pub joined_view : PassView X → PassView X → PassView X
   joined_view v w = record v {
     seen = if nat_lt (length v.seen) (length w.seen) then w.seen else v.seen;

@@ -9,6 +9,7 @@ abbrev pub passes_known : Option ℕ → ℕ
 passes_known None = 0
 passes_known (Some n) = n
 
+-- an ended pass is kept as its number and its items
 abbrev pub number_of_ended : {X : Type 0} → ℕ × List X → ℕ
 number_of_ended e = e.0
 
@@ -34,12 +35,14 @@ module _ {X : Type 0} where
     pub opening : v.number ≡ 0 → IsSome v.made
     pub counted : ForSome v.made (λ n. 0 < n)
 
-  -- The items of its number that it has seen are those that it made. Where it knows how many passes there are, it has seen no item of a number from there on.
+  -- The items of its number that it has seen are those that it made.
+  -- Where it knows how many passes there are, it has seen no item of a number from there on.
   pub record KnowsItems (by : X → ℕ) (v : PassView X) : Type 0 where
     pub own : made_by by v.number v.seen ≡ v.mine
     pub none_past : (n k : ℕ) → v.made ≡ Some n → n ≤ k → made_by by k v.seen ≡ []
 
-  -- The list has items of the pass and of those that ended in it, and no others. Their numbers are those below the number of passes, each once.
+  -- The list has items of the pass and of those that ended in it, and no others.
+  -- Their numbers are those below the number of passes, each once.
   pub record OnlyOf (by : X → ℕ) (v : PassView X) (items : List X) : Type 0 where
     pub no_others : (k : ℕ) → times k (numbers_of v) ≡ 0 → made_by by k items ≡ []
     pub numbers : (k : ℕ) → k < length v.ended + 1 → times k (numbers_of v) ≡ 1
