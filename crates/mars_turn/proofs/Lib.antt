@@ -1,0 +1,10 @@
+pub mod Lists
+pub mod Flat
+pub mod Counted
+pub mod Knowing
+pub mod Begin
+pub mod Takes
+pub mod Gives
+pub mod Splits
+pub mod Joins
+pub mod Closes

@@ -1,0 +1,127 @@
+//! The answer of a row, by its first word.
+use crate::alone::{Stages, history_in_order, tell_stages};
+use crate::closing::Closed;
+use crate::history::counted;
+use crate::threads::{Shape, Told, history_of_four, keep_by_two};
+use mars_base::NoMemory;
+use std::alloc::Global;
+use std::sync::Wait;
+use std::thread::Threads;
+
+/// Appends the answer of a row.
+pub(crate) fn answer<R: Threads + Wait + Sync>(
+    rt: &R,
+    alloc: Global,
+    row: &str,
+    into: &mut String,
+) -> Result<(), NoMemory> {
+    let (word, rest) = row.split_once(' ').unwrap_or((row, ""));
+    match word {
+        "threads" => answer_threads(rt, alloc, rest, into),
+        "keep" => answer_keep(rt, alloc, rest, into),
+        "order" => push_list(alloc, history_in_order(rt, alloc, rest)?, into),
+        "complete" => push_stages(alloc, tell_stages(rt, alloc)?, into),
+        _ => push(into, "no such row"),
+    }
+}
+
+/// Appends a text.
+fn push(into: &mut String, text: &str) -> Result<(), NoMemory> {
+    into.push_str(text)?;
+    Ok(())
+}
+
+/// `COUNT SHAPE`: four callers in four threads.
+fn answer_threads<R: Threads + Wait + Sync>(
+    rt: &R,
+    alloc: Global,
+    rest: &str,
+    into: &mut String,
+) -> Result<(), NoMemory> {
+    let (count, shape) = rest.split_once(' ').unwrap_or((rest, ""));
+    let shape = match shape {
+        "chain" => Shape::Chain,
+        "pairs" => Shape::Pairs,
+        _ => return push(into, "no such shape"),
+    };
+    let Ok(count) = count.parse::<u64>() else {
+        return push(into, "a number is wanted");
+    };
+    match history_of_four(rt, alloc, count, shape)? {
+        Some(closed) => push_four(alloc, closed, count, into),
+        None => push(into, "not complete"),
+    }
+}
+
+/// `ITEM`: two callers in two threads.
+fn answer_keep<R: Threads + Wait + Sync>(
+    rt: &R,
+    alloc: Global,
+    rest: &str,
+    into: &mut String,
+) -> Result<(), NoMemory> {
+    let Ok(item) = rest.parse::<u64>() else {
+        return push(into, "a number is wanted");
+    };
+    match keep_by_two(rt, alloc, item)? {
+        Some(told) => push_told(alloc, told, into),
+        None => push(into, "not complete"),
+    }
+}
+
+/// Appends whether each of four callers has its items, each once and in order, and how many items there are.
+fn push_four(alloc: Global, closed: Closed, count: u64, into: &mut String) -> Result<(), NoMemory> {
+    let Closed { history, by } = closed;
+    let entries = history.entries.as_slice();
+    let one = counted(entries, 1) == Some(count);
+    let two = counted(entries, 2) == Some(count);
+    let three = counted(entries, 3) == Some(count);
+    let four = counted(entries, 4) == Some(count);
+    let (all, limit) = (entries.len(), history.limit);
+    let text = format!(in alloc;
+        "in order {one} {two} {three} {four}, {all} in all, limit {limit}, closed by {by}"
+    )?;
+    push(into, text.as_str())
+}
+
+/// Appends what two callers were told, and how many entries each has.
+fn push_told(alloc: Global, told: Told, into: &mut String) -> Result<(), NoMemory> {
+    let Told { one, two, closed } = told;
+    let entries = closed.history.entries.as_slice();
+    let first = entries.iter().filter(|entry| entry.who == 1).count();
+    let second = entries.iter().filter(|entry| entry.who == 2).count();
+    let (all, by) = (entries.len(), closed.by);
+    let text = format!(in alloc;
+        "told {one:?} and {two:?}, entries {first} and {second} of {all}, closed by {by}"
+    )?;
+    push(into, text.as_str())
+}
+
+/// Appends a history.
+fn push_list(alloc: Global, closed: Option<Closed>, into: &mut String) -> Result<(), NoMemory> {
+    let Some(Closed { history, by }) = closed else {
+        return push(into, "not complete");
+    };
+    for entry in &history.entries {
+        let text = format!(in alloc; "{}:{} ", entry.who, entry.item)?;
+        push(into, text.as_str())?;
+    }
+    let text = format!(in alloc; "limit {}, closed by {by}", history.limit)?;
+    push(into, text.as_str())
+}
+
+/// Appends when a pass is complete.
+fn push_stages(alloc: Global, stages: Stages, into: &mut String) -> Result<(), NoMemory> {
+    let Stages {
+        alone,
+        inside,
+        with_another,
+        other,
+        joined,
+        number,
+    } = stages;
+    let text = format!(in alloc;
+        "alone {alone}, inside {inside}, with another {with_another}, the other {other}, joined {joined} as {number}"
+    )?;
+    push(into, text.as_str())
+}
