@@ -1,5 +1,6 @@
 -- Promised: what a grammar is, which texts it has, and where a text is refused.
 pub mod FormTable
+pub mod Rows
 pub mod Testing
 pub mod Building
 pub mod Refusing
