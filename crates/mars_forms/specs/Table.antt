@@ -48,11 +48,9 @@ begins two (trigger.InOne wanted) k = not two && (kind_place k == kind_place wan
 begins two (trigger.InTwo wanted) k = two && (kind_place k == kind_place wanted)
 begins two trigger.Name k = is_name two k
 
+-- the whole grammar, an entry a symbol, in the order of the symbols
 abbrev pub entries : List (FormEntry FormSymbol Trigger FormAction)
 entries = constant_entries FORMS
-
-abbrev pub rows_of : FormSymbol → RowList Trigger FormSymbol
-rows_of s = rows_at (slice_get entries (symbol_place s))
 
 -- what has been read of the right side of a definition, after one more token
 abbrev pub pass : TokenKind → FormMode → FormMode

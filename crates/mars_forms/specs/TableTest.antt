@@ -1,5 +1,5 @@
 -- The grammar of each version is LL(1), and each beginning of a text can be ended.
-use Rattle.std.specs.Prelude.{refl, ℕ, List, [], ◌∷◌, Option, Some, None, Bool, true, false, map}
+use Rattle.std.specs.Prelude.{refl, ℕ, List, [], ◌∷◌, Bool, true, false, map}
 use denote.Enum.Declared.{tag_of}
 use Rattle.mars_grammar.specs.Testing.{Listing, Test, test_of, Passes}
 use Rattle.mars_forms.specs.declared.lexeme.TokenKind.{TokenKind}
@@ -41,6 +41,7 @@ listing = record {
 abbrev pub forms_test : Bool → Test FormSymbol TokenKind Lexeme FormMode
 forms_test two = test_of (forms two) listing
 
+-- the test of both versions
 pub passes : (two : Bool) → Passes (forms two) (forms_test two)
 passes false = record { all_symbols = elim [ due.Input ↦ refl | _ ↦ refl ]; all_kinds = elim [ kind.Rules ↦ refl | _ ↦ refl ]; all_modes = elim [ mode.Fresh ↦ refl | _ ↦ refl ]; forms = refl; barred = refl; ended = refl }
 passes true = record { all_symbols = elim [ due.Input ↦ refl | _ ↦ refl ]; all_kinds = elim [ kind.Rules ↦ refl | _ ↦ refl ]; all_modes = elim [ mode.Fresh ↦ refl | _ ↦ refl ]; forms = refl; barred = refl; ended = refl }

@@ -2,9 +2,11 @@
 #![tactic(auto)]
 
 mod lexeme;
+mod starts;
 mod symbol;
 mod table;
 
 pub use lexeme::{Lexeme, TokenKind};
+pub use starts::{parse_goals, parse_input_one, parse_input_two, parse_tree};
 pub use symbol::{FormAction, FormMode, FormSymbol, Trigger};
-pub use table::{FORMS, Forms, GOALS, INPUT, TREE};
+pub use table::{FORMS, FormEntry, FormRow, Forms, GOALS, INPUT, TREE};

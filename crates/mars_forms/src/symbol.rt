@@ -5,7 +5,7 @@ use crate::TokenKind;
 #[derive(Clone, Copy, Debug, PartialEq, Eq, Drop)]
 pub enum FormSymbol {
     Input,
-    Rules,
+    RuleList,
     HeadArguments,
     HeadRow,
     HeadClose,

@@ -1,7 +1,7 @@
 // The grammar: each symbol with its forms, a row an alternative.
-ghost use Rattle.std.specs.Prelude.{◌≡◌};
+ghost use Rattle.std.specs.Prelude.{◌≡◌, slice_get};
 ghost use Rattle.std.specs.Option.{option_copied};
-ghost use Rattle.mars_grammar.specs.Rows.{borrowed_rows, first_row};
+ghost use Rattle.mars_grammar.specs.Rows.{borrowed_rows, borrowed_entry, first_row};
 ghost use Rattle.mars_forms.specs.Table as told;
 ghost use Rattle.mars_forms.specs.TableTest as tested;
 
@@ -14,6 +14,18 @@ use mars_grammar::Grammar;
 /// A row of a symbol: the token that it begins with, and the symbols that are due after that token.
 pub type FormRow = (Trigger, &'static [FormSymbol]);
 
+/// A symbol, what a builder is told where it is left out, if it can be, and its rows.
+pub type FormEntry = (
+    FormSymbol,
+    Option<&'static [FormAction]>,
+    &'static [FormRow],
+);
+
+/// The symbol can't be left out.
+const NEEDED: Option<&[FormAction]> = None;
+/// The symbol can be left out, and nothing is told.
+const OPTIONAL: Option<&[FormAction]> = Some(&[]);
+
 /// What is due at the beginning of an input.
 pub const INPUT: &[FormSymbol] = &[Input];
 /// What is due at the beginning of the text of a tree.
@@ -21,119 +33,189 @@ pub const TREE: &[FormSymbol] = &[PutTerm, Definitions];
 /// What is due at the beginning of the text of goals, perhaps with a number of answers before them.
 pub const GOALS: &[FormSymbol] = &[AskLimit, AskGoals];
 
-/// The whole grammar. An entry is a symbol, what a builder is told where the symbol is left out, if it can be, and
-/// the symbol's rows. The entries are in the order of the symbols.
-pub static FORMS: [(FormSymbol, Option<&[FormAction]>, &[FormRow]); 44] = [
+/// The whole grammar, an entry a symbol, in the order of the symbols.
+pub static FORMS: [FormEntry; 44] = [
     // INPUT: `rules` RULE* SESSION* `end`, and in version 2 the same after `rules2`
-    (Input, None, &[
-        (InOne(TokenKind::Rules), &[FormSymbol::Rules, Sessions, OneEnd]),
-        (InTwo(RulesTwo), &[FormSymbol::Rules, Sessions, OneEnd]),
-    ]),
+    (
+        Input,
+        NEEDED,
+        &[
+            (InOne(Rules), &[RuleList, Sessions, OneEnd]),
+            (InTwo(RulesTwo), &[RuleList, Sessions, OneEnd]),
+        ],
+    ),
     // RULE*: a head, an arrow, goals, a semicolon
-    (FormSymbol::Rules, Some(&[]), &[
-        (Name, &[HeadArguments, Head, OneArrow, Goals, OneSemicolon, FormSymbol::Rules]),
-    ]),
+    (
+        RuleList,
+        OPTIONAL,
+        &[(
+            Name,
+            &[HeadArguments, Head, OneArrow, Goals, OneSemicolon, RuleList],
+        )],
+    ),
     // the arguments of a head, perhaps none
-    (HeadArguments, Some(&[]), &[(Is(Open), &[Term, HeadRow, HeadClose])]),
-    (HeadRow, Some(&[]), &[(Is(Comma), &[Term, HeadRow])]),
-    (HeadClose, None, &[(Is(Close), &[])]),
+    (
+        HeadArguments,
+        OPTIONAL,
+        &[(Is(Open), &[Term, HeadRow, HeadClose])],
+    ),
+    (HeadRow, OPTIONAL, &[(Is(Comma), &[Term, HeadRow])]),
+    (HeadClose, NEEDED, &[(Is(Close), &[])]),
     // GOAL* of a rule
-    (Goals, Some(&[]), &[
-        (Name, &[Arguments, Call, Goals]),
-        (Is(Variable), &[Goals]),
-        (Is(Slash), &[Goals]),
-    ]),
+    (
+        Goals,
+        OPTIONAL,
+        &[
+            (Name, &[Arguments, Call, Goals]),
+            (Is(Variable), &[Goals]),
+            (Is(Slash), &[Goals]),
+        ],
+    ),
     // TERM in a rule
-    (Term, None, &[
-        (Is(Variable), &[Tail]),
-        (Name, &[Arguments, Apply, Tail]),
-        (Is(Integer), &[Tail]),
-        (InTwo(Text), &[Tail]),
-        (Is(Less), &[Term, Row, OneGreater, Apply, Tail]),
-        (Is(Open), &[Term, OneClose, Tail]),
-    ]),
-    (Arguments, Some(&[]), &[(Is(Open), &[Term, Row, OneClose])]),
-    (Row, Some(&[]), &[(Is(Comma), &[Term, Row])]),
-    (Tail, Some(&[]), &[(Is(Dot), &[Term, Pair])]),
+    (
+        Term,
+        NEEDED,
+        &[
+            (Is(Variable), &[Tail]),
+            (Name, &[Arguments, Apply, Tail]),
+            (Is(Integer), &[Tail]),
+            (InTwo(Text), &[Tail]),
+            (Is(Less), &[Term, Row, OneGreater, Apply, Tail]),
+            (Is(Open), &[Term, OneClose, Tail]),
+        ],
+    ),
+    (Arguments, OPTIONAL, &[(Is(Open), &[Term, Row, OneClose])]),
+    (Row, OPTIONAL, &[(Is(Comma), &[Term, Row])]),
+    (Tail, OPTIONAL, &[(Is(Dot), &[Term, Pair])]),
     // SESSION*: in version 2 perhaps with rules of its own between `local` and `begin`
-    (Sessions, Some(&[]), &[(Is(Session), &[OneName, Locals, Commands, Sessions])]),
-    (Locals, Some(&[]), &[(InTwo(Local), &[FormSymbol::Rules, OneBegin])]),
+    (
+        Sessions,
+        OPTIONAL,
+        &[(Is(Session), &[OneName, Locals, Commands, Sessions])],
+    ),
+    (Locals, OPTIONAL, &[(InTwo(Local), &[RuleList, OneBegin])]),
     // COMMAND*, each with its semicolon
-    (Commands, Some(&[]), &[
-        (Is(PutWord), &[OneName, PutTerm, Definitions, OneSemicolon, Commands]),
-        (Is(AskWord), &[AskLimit, AskGoals, OneSemicolon, Commands]),
-        (Is(KeepWord), &[OneName, OneVariable, OneSemicolon, Commands]),
-        (Is(SameWord), &[OneName, OneName, OneSemicolon, Commands]),
-        (Is(PinWord), &[OneName, OneName, OneSemicolon, Commands]),
-        (Is(ShowWord), &[OneName, OneSemicolon, Commands]),
-        (Is(DropWord), &[OneName, OneSemicolon, Commands]),
-        (Is(SweepWord), &[OneSemicolon, Commands]),
-        (Is(CountWord), &[OneSemicolon, Commands]),
-    ]),
+    (
+        Commands,
+        OPTIONAL,
+        &[
+            (
+                Is(PutWord),
+                &[OneName, PutTerm, Definitions, OneSemicolon, Commands],
+            ),
+            (Is(AskWord), &[AskLimit, AskGoals, OneSemicolon, Commands]),
+            (
+                Is(KeepWord),
+                &[OneName, OneVariable, OneSemicolon, Commands],
+            ),
+            (Is(SameWord), &[OneName, OneName, OneSemicolon, Commands]),
+            (Is(PinWord), &[OneName, OneName, OneSemicolon, Commands]),
+            (Is(ShowWord), &[OneName, OneSemicolon, Commands]),
+            (Is(DropWord), &[OneName, OneSemicolon, Commands]),
+            (Is(SweepWord), &[OneSemicolon, Commands]),
+            (Is(CountWord), &[OneSemicolon, Commands]),
+        ],
+    ),
     // GOAL* of an ask, after the most answers that are asked for
-    (AskLimit, Some(&[]), &[(Is(Integer), &[])]),
-    (AskGoals, Some(&[]), &[
-        (Name, &[AskArguments, Call, AskGoals]),
-        (Is(Variable), &[AskGoals]),
-        (Is(Slash), &[AskGoals]),
-        (Is(Hash), &[KeptName, AskGoals]),
-    ]),
+    (AskLimit, OPTIONAL, &[(Is(Integer), &[])]),
+    (
+        AskGoals,
+        OPTIONAL,
+        &[
+            (Name, &[AskArguments, Call, AskGoals]),
+            (Is(Variable), &[AskGoals]),
+            (Is(Slash), &[AskGoals]),
+            (Is(Hash), &[KeptName, AskGoals]),
+        ],
+    ),
     // TERM in an ask: a kept tree too
-    (AskTerm, None, &[
-        (Is(Variable), &[AskTail]),
-        (Name, &[AskArguments, Apply, AskTail]),
-        (Is(Integer), &[AskTail]),
-        (InTwo(Text), &[AskTail]),
-        (Is(Less), &[AskTerm, AskRow, OneGreater, Apply, AskTail]),
-        (Is(Open), &[AskTerm, OneClose, AskTail]),
-        (Is(Hash), &[KeptName, AskTail]),
-    ]),
-    (AskArguments, Some(&[]), &[(Is(Open), &[AskTerm, AskRow, OneClose])]),
-    (AskRow, Some(&[]), &[(Is(Comma), &[AskTerm, AskRow])]),
-    (AskTail, Some(&[]), &[(Is(Dot), &[AskTerm, Pair])]),
-    (KeptName, None, &[(Name, &[])]),
+    (
+        AskTerm,
+        NEEDED,
+        &[
+            (Is(Variable), &[AskTail]),
+            (Name, &[AskArguments, Apply, AskTail]),
+            (Is(Integer), &[AskTail]),
+            (InTwo(Text), &[AskTail]),
+            (Is(Less), &[AskTerm, AskRow, OneGreater, Apply, AskTail]),
+            (Is(Open), &[AskTerm, OneClose, AskTail]),
+            (Is(Hash), &[KeptName, AskTail]),
+        ],
+    ),
+    (
+        AskArguments,
+        OPTIONAL,
+        &[(Is(Open), &[AskTerm, AskRow, OneClose])],
+    ),
+    (AskRow, OPTIONAL, &[(Is(Comma), &[AskTerm, AskRow])]),
+    (AskTail, OPTIONAL, &[(Is(Dot), &[AskTerm, Pair])]),
+    (KeptName, NEEDED, &[(Name, &[])]),
     // TERM in a put: a placed variable too
-    (PutTerm, None, &[
-        (Is(Variable), &[PutTail]),
-        (Is(Placed), &[PutTail]),
-        (Name, &[PutArguments, Apply, PutTail]),
-        (Is(Integer), &[PutTail]),
-        (InTwo(Text), &[PutTail]),
-        (Is(Less), &[PutTerm, PutRow, OneGreater, Apply, PutTail]),
-        (Is(Open), &[PutTerm, OneClose, PutTail]),
-    ]),
-    (PutArguments, Some(&[]), &[(Is(Open), &[PutTerm, PutRow, OneClose])]),
-    (PutRow, Some(&[]), &[(Is(Comma), &[PutTerm, PutRow])]),
-    (PutTail, Some(&[]), &[(Is(Dot), &[PutTerm, Pair])]),
+    (
+        PutTerm,
+        NEEDED,
+        &[
+            (Is(Variable), &[PutTail]),
+            (Is(Placed), &[PutTail]),
+            (Name, &[PutArguments, Apply, PutTail]),
+            (Is(Integer), &[PutTail]),
+            (InTwo(Text), &[PutTail]),
+            (Is(Less), &[PutTerm, PutRow, OneGreater, Apply, PutTail]),
+            (Is(Open), &[PutTerm, OneClose, PutTail]),
+        ],
+    ),
+    (
+        PutArguments,
+        OPTIONAL,
+        &[(Is(Open), &[PutTerm, PutRow, OneClose])],
+    ),
+    (PutRow, OPTIONAL, &[(Is(Comma), &[PutTerm, PutRow])]),
+    (PutTail, OPTIONAL, &[(Is(Dot), &[PutTerm, Pair])]),
     // the definitions of a TREE: `where` DEF, and more after commas
-    (Definitions, Some(&[]), &[(Is(Where), &[Definition, Define, MoreDefinitions])]),
-    (MoreDefinitions, Some(&[]), &[(Is(Comma), &[Definition, Define, MoreDefinitions])]),
-    (Definition, None, &[
-        (Is(Variable), &[OneEquals, DefinedTerm]),
-        (Is(Placed), &[OneEquals, DefinedTerm]),
-    ]),
+    (
+        Definitions,
+        OPTIONAL,
+        &[(Is(Where), &[Definition, Define, MoreDefinitions])],
+    ),
+    (
+        MoreDefinitions,
+        OPTIONAL,
+        &[(Is(Comma), &[Definition, Define, MoreDefinitions])],
+    ),
+    (
+        Definition,
+        NEEDED,
+        &[
+            (Is(Variable), &[OneEquals, DefinedTerm]),
+            (Is(Placed), &[OneEquals, DefinedTerm]),
+        ],
+    ),
     // a TERM that isn't a variable alone: after a variable comes a dot, and so after a variable in brackets
-    (DefinedTerm, None, &[
-        (Is(Variable), &[OneDot, PutTerm, Pair]),
-        (Is(Placed), &[OneDot, PutTerm, Pair]),
-        (Name, &[PutArguments, Apply, PutTail]),
-        (Is(Integer), &[PutTail]),
-        (InTwo(Text), &[PutTail]),
-        (Is(Less), &[PutTerm, PutRow, OneGreater, Apply, PutTail]),
-        (Is(Open), &[PutTerm, OneClose, BracketTail]),
-    ]),
-    (BracketTail, Some(&[]), &[(Is(Dot), &[PutTerm, Pair])]),
+    (
+        DefinedTerm,
+        NEEDED,
+        &[
+            (Is(Variable), &[OneDot, PutTerm, Pair]),
+            (Is(Placed), &[OneDot, PutTerm, Pair]),
+            (Name, &[PutArguments, Apply, PutTail]),
+            (Is(Integer), &[PutTail]),
+            (InTwo(Text), &[PutTail]),
+            (Is(Less), &[PutTerm, PutRow, OneGreater, Apply, PutTail]),
+            (Is(Open), &[PutTerm, OneClose, BracketTail]),
+        ],
+    ),
+    (BracketTail, OPTIONAL, &[(Is(Dot), &[PutTerm, Pair])]),
     // single tokens
-    (OneName, None, &[(Name, &[])]),
-    (OneVariable, None, &[(Is(Variable), &[])]),
-    (OneArrow, None, &[(Is(Arrow), &[])]),
-    (OneSemicolon, None, &[(Is(Semicolon), &[])]),
-    (OneClose, None, &[(Is(Close), &[])]),
-    (OneGreater, None, &[(Is(Greater), &[])]),
-    (OneEquals, None, &[(Is(Equals), &[])]),
-    (OneDot, None, &[(Is(Dot), &[])]),
-    (OneBegin, None, &[(Is(Begin), &[])]),
-    (OneEnd, None, &[(Is(End), &[])]),
+    (OneName, NEEDED, &[(Name, &[])]),
+    (OneVariable, NEEDED, &[(Is(Variable), &[])]),
+    (OneArrow, NEEDED, &[(Is(Arrow), &[])]),
+    (OneSemicolon, NEEDED, &[(Is(Semicolon), &[])]),
+    (OneClose, NEEDED, &[(Is(Close), &[])]),
+    (OneGreater, NEEDED, &[(Is(Greater), &[])]),
+    (OneEquals, NEEDED, &[(Is(Equals), &[])]),
+    (OneDot, NEEDED, &[(Is(Dot), &[])]),
+    (OneBegin, NEEDED, &[(Is(Begin), &[])]),
+    (OneEnd, NEEDED, &[(Is(End), &[])]),
     // no token: what is before it is whole
     (Apply, Some(&[FormAction::Apply]), &[]),
     (Pair, Some(&[FormAction::Pair]), &[]),
@@ -154,19 +236,27 @@ fn begins(two: bool, trigger: Trigger, kind: TokenKind) -> bool
         InOne(wanted) => !two && kind == wanted,
         InTwo(wanted) => two && kind == wanted,
         Name => match kind {
-            Identifier | PutWord | AskWord | KeepWord | SameWord | PinWord | ShowWord | DropWord
-            | SweepWord | CountWord => true,
+            Identifier
+            | PutWord
+            | AskWord
+            | KeepWord
+            | SameWord
+            | PinWord
+            | ShowWord
+            | DropWord
+            | SweepWord
+            | CountWord => true,
             RulesTwo | Local | Begin => !two,
             _ => false,
         },
     }
 }
 
-/// The rows of a symbol.
-fn rows_of(symbol: FormSymbol) -> &'static [FormRow]
-    ensures { borrowed_rows result.now ≡ told.rows_of symbol }
+/// The entry of a symbol.
+fn entry_of(symbol: FormSymbol) -> &'static FormEntry
+    ensures { slice_get told.entries (told.symbol_place symbol) ≡ Some (borrowed_entry result.now) }
 {
-    FORMS[symbol as usize].2
+    &FORMS[symbol as usize]
 }
 
 /// What is due after a token of this kind, by the first row that begins with it.
@@ -201,11 +291,11 @@ impl<const TWO: bool> Grammar for Forms<TWO> {
     }
 
     fn takes(symbol: FormSymbol, kind: TokenKind) -> Option<&'static [FormSymbol]> {
-        first_row(TWO, rows_of(symbol), kind)
+        first_row(TWO, entry_of(symbol).2, kind)
     }
 
     fn leaves(symbol: FormSymbol) -> Option<&'static [FormAction]> {
-        FORMS[symbol as usize].1
+        entry_of(symbol).1
     }
 
     fn free() -> FormMode {

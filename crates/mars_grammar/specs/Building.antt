@@ -25,3 +25,7 @@ which None None = None
 
 abbrev pub both : {E V W L R : Type 0} → Build E V L → Build E W R → Build E (V × W) (Which L R)
 both B D = record { perform = λ e v. (B.perform e v.0, D.perform e v.1); refuses = λ v. which (B.refuses v.0) (D.refuses v.1) }
+
+-- the builder that makes nothing
+abbrev pub no_value : {E : Type 0} → Build E (Unit {0}) (Unit {0})
+no_value = record { perform = λ e v. v; refuses = λ v. None }

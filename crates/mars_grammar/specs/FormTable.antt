@@ -46,4 +46,3 @@ pub record BeginsText {S K T A M : Type 0} (G : FormTable S K T A M) (start : Li
   pub more : List T
   pub events : List (Event S T A)
   pub text : IsText G start (tokens ++ more) events
-

@@ -63,4 +63,3 @@ Steps false token_step m k v = token_step ≡ None
 abbrev pub Closes : {V : Type 0} → Bool → Option V → V → Type 0
 Closes true closed v = closed ≡ Some v
 Closes false closed v = closed ≡ None
-

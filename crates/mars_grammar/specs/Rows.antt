@@ -1,5 +1,6 @@
 -- Tables that are written as data: each symbol with its rows. A row is what its first token must be, and what is due after it.
-use Rattle.std.specs.Prelude.{ℕ, List, [], ◌∷◌, Option, Some, None, Bool, true, false, map}
+use Rattle.std.specs.Prelude.{ℕ, List, [], ◌∷◌, Option, Some, None, Bool, true, false, map, option_map}
+use Rattle.std.specs.Option.{option_copied}
 use Rattle.std.specs.Borrow.{Bor}
 
 -- the rows of one symbol
@@ -17,17 +18,21 @@ abbrev pub borrowed_rows : {O S : Type 0} → List (O × Bor (List S)) → RowLi
 borrowed_rows [] = []
 borrowed_rows (r ∷ rows) = (r.0, r.1.now) ∷ borrowed_rows rows
 
+-- an entry that the code holds, likewise
+abbrev pub borrowed_entry : {S O A : Type 0} → S × Option (Bor (List A)) × Bor (List (O × Bor (List S))) → FormEntry S O A
+borrowed_entry e = record { symbol = e.0; leaves = option_copied e.1; rows = borrowed_rows e.2.now }
+
 -- rows of a constant
-abbrev pub constant_rows : {O S : Type 0} → List (O × record {now : List S}) → RowList O S
+abbrev pub constant_rows : {O S : Type 0} → List (O × record { now : List S }) → RowList O S
 constant_rows [] = []
 constant_rows (r ∷ rows) = (r.0, r.1.now) ∷ constant_rows rows
 
-abbrev pub constant_leaves : {A : Type 0} → Option (record {now : List A}) → Option (List A)
-constant_leaves None = None
-constant_leaves (Some told) = Some told.now
+-- what a constant has for a symbol that is left out
+abbrev pub constant_leaves : {A : Type 0} → Option (record { now : List A }) → Option (List A)
+constant_leaves told = option_map (λ actions. actions.now) told
 
 -- entries of a constant
-abbrev pub constant_entries : {S O A : Type 0} → List (S × Option (record {now : List A}) × record {now : List (O × record {now : List S})}) → List (FormEntry S O A)
+abbrev pub constant_entries : {S O A : Type 0} → List (S × Option (record { now : List A }) × record { now : List (O × record { now : List S }) }) → List (FormEntry S O A)
 constant_entries [] = []
 constant_entries (e ∷ es) = record { symbol = e.0; leaves = constant_leaves e.1; rows = constant_rows e.2.now } ∷ constant_entries es
 
