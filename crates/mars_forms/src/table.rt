@@ -15,7 +15,7 @@ use mars_grammar::Grammar;
 pub type FormRow = (Trigger, &'static [FormSymbol]);
 
 /// A symbol, what a builder is told where it is left out, if it can be, and its rows.
-pub type FormEntry = (
+pub type SymbolEntry = (
     FormSymbol,
     Option<&'static [FormAction]>,
     &'static [FormRow],
@@ -34,7 +34,7 @@ pub const TREE: &[FormSymbol] = &[PutTerm, Definitions];
 pub const GOALS: &[FormSymbol] = &[AskLimit, AskGoals];
 
 /// The whole grammar, an entry a symbol, in the order of the symbols.
-pub static FORMS: [FormEntry; 44] = [
+pub static FORMS: [SymbolEntry; 44] = [
     // INPUT: `rules` RULE* SESSION* `end`, and in version 2 the same after `rules2`
     (
         Input,
@@ -253,7 +253,7 @@ fn begins(two: bool, trigger: Trigger, kind: TokenKind) -> bool
 }
 
 /// The entry of a symbol.
-fn entry_of(symbol: FormSymbol) -> &'static FormEntry
+fn entry_of(symbol: FormSymbol) -> &'static SymbolEntry
     ensures { slice_get told.entries (told.symbol_place symbol) ≡ Some (borrowed_entry result.now) }
 {
     &FORMS[symbol as usize]
