@@ -1,0 +1,2 @@
+-- Inside: the code's own steps, promised to nobody.
+pub mod Rows
