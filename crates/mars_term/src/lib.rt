@@ -1,7 +1,13 @@
 //! Terms, goals, rules and asks, as the reader gives them: plain values with equality and hash.
 #![tactic(auto)]
 
+mod clause;
+mod comparing;
 mod copying;
+mod hashing;
+mod laws;
 mod term;
 
+pub use clause::{Ask, Goal, Goals, NameIds, Rule, Version};
+pub use laws::{parts_of_terms, term_examples};
 pub use term::{Term, Terms};
