@@ -52,9 +52,9 @@ pub data IsWords : List (List ℕ) → Words → Type 0 where
   none : IsWords [] (says mode.Run nothing_given)
   run : {options end : List (List ℕ)} {given : Given} → AreOptions nothing_given options given → IsEnd end →
       IsWords (codes "run" ∷ (options ++ end)) (says mode.Run given)
-  order : {options end words : List (List ℕ)} {given : Given} {numbers : List ℕ} → AreOptions nothing_given options given → IsEnd end →
+  order : {options end : List (List ℕ)} {given : Given} (words : List (List ℕ)) {numbers : List ℕ} → AreOptions nothing_given options given → IsEnd end →
       AreNumbers words numbers → IsWords (codes "order" ∷ (options ++ (end ++ words))) (says (mode.Order numbers) given)
   replay : {options end : List (List ℕ)} {given : Given} → AreOptions nothing_given options given → given.log ≡ false → IsEnd end →
       IsWords (codes "replay" ∷ (options ++ end)) (says mode.Replay given)
-  make : {end : List (List ℕ)} {first second : List ℕ} {start size : ℕ} → IsEnd end → number_up_to LAST_START first ≡ Some start →
+  make : {end : List (List ℕ)} (first second : List ℕ) {start size : ℕ} → IsEnd end → number_up_to LAST_START first ≡ Some start →
       number_up_to MOST_ROUNDS second ≡ Some size → IsWords (codes "make" ∷ (end ++ (first ∷ second ∷ []))) (says (mode.Make start size) nothing_given)

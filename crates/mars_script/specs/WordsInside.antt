@@ -43,11 +43,19 @@ start_words first second = elim (number_up_to LAST_START first) [
   | None ↦ None
   ]
 
+-- the words without a first one that is `--`
+abbrev pub without_end : List (List ℕ) → List (List ℕ)
+without_end [] = []
+without_end (first ∷ rest) = if pointwise nat_eq first (codes "--") then rest else first ∷ rest
+
+-- what two words say that are a start and a size
+abbrev pub two_words : List (List ℕ) → Option Words
+two_words (first ∷ second ∷ []) = start_words first second
+two_words _ = None
+
 -- what the words after `make` say
 abbrev pub made_words : List (List ℕ) → Option Words
-made_words (first ∷ second ∷ []) = start_words first second
-made_words (end ∷ first ∷ second ∷ []) = if pointwise nat_eq end (codes "--") then start_words first second else None
-made_words _ = None
+made_words words = two_words (without_end words)
 
 -- what words say
 abbrev pub words_in : List (List ℕ) → Option Words

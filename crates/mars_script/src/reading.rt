@@ -3,7 +3,7 @@ ghost use Rattle.std.specs.Prelude.{◌≡◌, [], List, ℕ, IfOk, IfErr};
 ghost use Rattle.std.specs.Option.{option_map};
 ghost use Rattle.mars_script.specs.Words.{IsWords, texts_of, options_of, nothing_given};
 ghost use Rattle.mars_script.specs.StepsInside.{goes_over, at_options, at_end};
-ghost use Rattle.mars_script.specs.WordsInside.{IsSaid, mode_words, mode_of, made_words, start_words};
+ghost use Rattle.mars_script.specs.WordsInside.{IsSaid, mode_words, mode_of, made_words, start_words, without_end};
 ghost use Rattle.mars_script.specs.declared.words.Words.{Words};
 ghost use Rattle.mars_script.specs.declared.words.WordsError.TheVariants as why;
 
@@ -97,10 +97,20 @@ fn mode_of(word: &str, given: Given, numbers: Vec<u32>) -> Option<Mode>
 fn read_make(words: &[String]) -> Result<Words, WordsError>
     ensures { IsSaid (made_words (texts_of words.now)) result }
 {
-    match words {
-        [start, size] => read_start(start.as_str(), size.as_str()),
-        [end, start, size] if is_word(end.as_str(), "--") => read_start(start.as_str(), size.as_str()),
-        _ => Err(WordsError::Bad),
+    let numbers = after_end(words);
+    if numbers.len() != 2 {
+        return Err(WordsError::Bad);
+    }
+    read_start(numbers[0].as_str(), numbers[1].as_str())
+}
+
+/// The words without a first one that is `--`.
+fn after_end(words: &[String]) -> &[String]
+    ensures { texts_of result.now ≡ without_end (texts_of words.now) }
+{
+    match words.split_first() {
+        Some((first, rest)) if is_word(first.as_str(), "--") => rest,
+        _ => words,
     }
 }
 
