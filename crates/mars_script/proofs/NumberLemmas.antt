@@ -1,5 +1,5 @@
 -- Numbers as `parse` reads them, and as the words' definition does.
-use Rattle.std.proofs.Common.{◌≡◌, ℕ, List, ◌<◌, ◌≤◌, ◌^◌, length, Bool, true, false, Option, Some, None, Result, Ok, Err, nat_lt, nat_le, ◌&&◌, if◌then◌else◌, refl, sym, subst, ap, ◌∙◌, rules, arith}
+use Rattle.std.proofs.Common.{◌≡◌, ℕ, List, ◌∷◌, ◌<◌, ◌≤◌, ◌^◌, length, Bool, true, false, Option, Some, None, Result, Ok, Err, nat_lt, nat_le, ◌&&◌, if◌then◌else◌, refl, sym, subst, ap, ◌∙◌, rules, arith}
 use Rattle.std.proofs.lemmas.Bool.Decides.{nat_tests}
 use Rattle.std.proofs.lemmas.Str.Parse.{IsNumeralModel, numerals_by_value, tells_all_ascii_digits}
 use Rattle.std.specs.Str.{all_ascii_digits}
@@ -56,3 +56,24 @@ number_unread {E = E} most text r error parsed e fits = of_Err (subst (λ (s : R
           let q = passed most ds t in
           let bound : digits_value 10 ds ≤ most = q.1.1 in
           p ((q.0, own.to ds q.1.0), omega (arith, bound, fits)))
+
+of_test : (b : Bool) (n k : ℕ) → (if b then Some n else None) ≡ Some k → b ≡ true
+of_test true n k e = refl
+of_test false n k e = cc
+
+-- a number has digits alone, after a plus or not
+pub number_digits : (most number : ℕ) (text : List ℕ) → number_up_to most text ≡ Some number → all_ascii_digits (without_leading_plus text) ≡ true
+number_digits most number text e =
+    let ds = without_leading_plus text in
+    let t : test most ds ≡ true = of_test (test most ds) (digits_value 10 ds) number e in
+    (passed most ds t).1.0
+
+minus_first : (most number : ℕ) (bytes : List ℕ) → number_up_to most (45 ∷ bytes) ≡ Some number → ⊥
+minus_first most number bytes e =
+    let digits : all_ascii_digits (45 ∷ bytes) ≡ true = number_digits most number (45 ∷ bytes) e in
+    let no : false ≡ true = digits in
+    cc
+
+-- a number doesn't begin with a minus
+pub no_minus : (most number byte : ℕ) (bytes : List ℕ) → number_up_to most (byte ∷ bytes) ≡ Some number → byte ≡ 45 → ⊥
+no_minus most number byte bytes e is = minus_first most number bytes (subst (λ (b : ℕ). number_up_to most (b ∷ bytes) ≡ Some number) is e)

@@ -1,5 +1,5 @@
 -- Which lists of words are accepted, and what they say.
-use Rattle.std.specs.Prelude.{◌≡◌, ◌⊎◌, ℕ, List, [], ◌∷◌, ◌++◌, map, Bool, false, Option, Some, None, unwrap_or, String, string_bytes, codes}
+use Rattle.std.specs.Prelude.{◌≡◌, ◌⊎◌, ℕ, List, [], ◌∷◌, ◌++◌, map, Bool, false, Option, Some, None, unwrap_or, ⊤, String, string_bytes, codes}
 use Rattle.mars_script.specs.declared.steps.Given.{Given}
 use Rattle.mars_script.specs.declared.words.Options.{Options}
 use Rattle.mars_script.specs.declared.words.Mode.{Mode}
@@ -27,7 +27,7 @@ says mode given = record { mode = mode; options = options_of given }
 
 -- options, each at most once: what was given before them, the words, and what is given after them
 pub data AreOptions : Given → List (List ℕ) → Given → Type 0 where
-  none : {given : Given} → AreOptions given [] given
+  no_option : {given : Given} → AreOptions given [] given
   steps : {given later : Given} {text : List ℕ} {rest : List (List ℕ)} {number : ℕ} → given.steps ≡ None → number_up_to MOST_STEPS text ≡ Some number →
       AreOptions (given_steps given number) rest later → AreOptions given (codes "--steps" ∷ text ∷ rest) later
   steps_are : {given later : Given} {text : List ℕ} {rest : List (List ℕ)} {number : ℕ} → given.steps ≡ None → number_up_to MOST_STEPS text ≡ Some number →
@@ -43,13 +43,15 @@ pub data AreOptions : Given → List (List ℕ) → Given → Type 0 where
 abbrev pub IsEnd : List (List ℕ) → Type 0
 IsEnd words = (words ≡ []) ⊎ (words ≡ codes "--" ∷ [])
 
--- each word is the number of a session
+-- each word is the number of a session, and these are the numbers
 abbrev pub AreNumbers : List (List ℕ) → List ℕ → Type 0
-AreNumbers words numbers = map (number_up_to LAST_SESSION) words ≡ map Some numbers
+AreNumbers [] [] = ⊤
+AreNumbers (word ∷ words) (number ∷ numbers) = (number_up_to LAST_SESSION word ≡ Some number) × AreNumbers words numbers
+AreNumbers _ _ = ⊥
 
 -- a list of words that is accepted, and what it says
 pub data IsWords : List (List ℕ) → Words → Type 0 where
-  none : IsWords [] (says mode.Run nothing_given)
+  no_word : IsWords [] (says mode.Run nothing_given)
   run : {options end : List (List ℕ)} {given : Given} → AreOptions nothing_given options given → IsEnd end →
       IsWords (codes "run" ∷ (options ++ end)) (says mode.Run given)
   order : {options end : List (List ℕ)} {given : Given} (words : List (List ℕ)) {numbers : List ℕ} → AreOptions nothing_given options given → IsEnd end →

@@ -3,7 +3,7 @@ ghost use Rattle.std.specs.Prelude.{◌≡◌, [], List, ℕ, IfOk, IfErr};
 ghost use Rattle.std.specs.Option.{option_map};
 ghost use Rattle.mars_script.specs.Words.{IsWords, texts_of, options_of, nothing_given};
 ghost use Rattle.mars_script.specs.StepsInside.{goes_over, at_options, at_end};
-ghost use Rattle.mars_script.specs.WordsInside.{IsSaid, mode_words, mode_of, made_words, start_words, without_end};
+ghost use Rattle.mars_script.specs.WordsInside.{IsSaid, mode_words, mode_of, made_words, start_words, without_end, words_in};
 ghost use Rattle.mars_script.specs.declared.words.Words.{Words};
 ghost use Rattle.mars_script.specs.declared.words.WordsError.TheVariants as why;
 
@@ -15,18 +15,26 @@ use mars_base::NoMemory;
 use sqlite_items::Items;
 use std::alloc::Global;
 
-/// What the words say that the program is given, the program's own name left out. Linear in the words.
+/// What the words say that the program is given, its own name left out. Linear in the words.
 pub fn read_words(alloc: Global, words: &[String]) -> Result<Words, WordsError>
     ensures read { IfOk result (λ said. IsWords (texts_of words.now) said) }
     ensures refused { IfErr result (λ error. error ≡ why.Bad → (said : Words) → IsWords (texts_of words.now) said → ⊥) }
 {
+    read_list(alloc, words)
+}
+
+/// What a list of words says.
+fn read_list(alloc: Global, words: &[String]) -> Result<Words, WordsError>
+    ensures { IsSaid (words_in (texts_of words.now)) result }
+{
     let Some((first, rest)) = words.split_first() else {
         return Ok(plain(Mode::Run));
     };
-    if is_word(first.as_str(), "make") {
+    let first = first.as_str();
+    if is_word(first, "make") {
         return read_make(rest);
     }
-    read_mode(alloc, first.as_str(), rest)
+    read_mode(alloc, first, rest)
 }
 
 /// A mode with the options that hold where no word says otherwise.
