@@ -19,3 +19,9 @@ pub said_refused : (texts : List (List ℕ)) (answer : Result Words WordsError) 
     IfErr answer (λ error. error ≡ why.Bad → (said : Words) → IsWords texts said → ⊥)
 said_refused texts (Ok said) h = tt
 said_refused texts (Err error) h = λ bad said. unsaid texts said (h bad)
+
+pub says_once : (texts : List (List ℕ)) (said other : Words) → IsWords texts said → IsWords texts other → said ≡ other
+says_once texts said other a b = let both : Some said ≡ Some other = sym (words_complete a) ∙ words_complete b in cc
+
+pub outside : (texts : List (List ℕ)) → words_in texts ≡ None → (said : Words) → IsWords texts said → ⊥
+outside texts e said = unsaid texts said e

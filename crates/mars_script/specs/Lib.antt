@@ -2,6 +2,8 @@
 pub mod Given
 pub mod Words
 pub mod Written
+-- Laws: examples.
+pub mod Examples
 -- Inside: the code's own steps, promised to nobody.
 pub mod KindsInside
 pub mod StepsInside

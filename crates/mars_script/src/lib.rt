@@ -2,12 +2,14 @@
 #![tactic(auto)]
 
 mod kinds;
+mod laws;
 mod numbers;
 mod reading;
 mod script;
 mod steps;
 mod words;
 
+pub use laws::{word_examples, words_say_one_thing};
 pub use reading::read_words;
 pub use script::{Command, Commands, Input, Rules, Script, Sessions};
 pub use words::{Mode, Options, SessionNumbers, Words, WordsError};
