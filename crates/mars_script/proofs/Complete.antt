@@ -14,7 +14,7 @@ use Rattle.mars_script.specs.declared.words.TheConstants.{MOST_STEPS, MOST_ROWS,
 use Rattle.mars_script.specs.Given.{given_steps, given_rows, given_log}
 use Rattle.mars_script.specs.KindsInside.{after, kind_of, kind_of_value}
 use Rattle.mars_script.specs.StepsInside.{at_phase, at_options, next_option_of, goes_over}
-use Rattle.mars_script.specs.Words.{AreOptions, no_option, steps, steps_are, rows, rows_are, log, IsEnd, AreNumbers, IsWords, no_word, run, order, replay, make, nothing_given, says}
+use Rattle.mars_script.specs.Words.{AreOptions, no_option, steps, steps_are, rows, rows_are, log, IsEnd, AreSessionNumbers, IsWords, no_word, run, order, replay, make, nothing_given, says_mode}
 use Rattle.mars_script.specs.WordsInside.{mode_of, mode_says, mode_words, start_words, two_words, without_end, made_words, words_in}
 use Rattle.mars_script.specs.Written.{number_up_to}
 use Rattle.mars_script.proofs.KindLemmas.{kind_last}
@@ -90,7 +90,7 @@ options_over (log {given = given} {rest = rest} new more) words =
     ∙ options_over more words
 
 -- the numbers are gone over
-pub numbers_over : (words : List (List ℕ)) (numbers before : List ℕ) (given : Given) → AreNumbers words numbers →
+pub numbers_over : (words : List (List ℕ)) (numbers before : List ℕ) (given : Given) → AreSessionNumbers words numbers →
     goes_over (at_phase phase.Numbers given) before words ≡ Some (given, before ++ numbers)
 numbers_over [] (number ∷ numbers) before given are = elim are [ ]
 numbers_over (word ∷ words) [] before given are = elim are [ ]
@@ -101,7 +101,7 @@ numbers_over (word ∷ words) (number ∷ numbers) before given are =
     ∙ ap (λ (ns : List ℕ). Some (given, ns)) (append_assoc before (number ∷ []) numbers)
 
 -- what is after the options is gone over
-numbers_alone : (words : List (List ℕ)) (numbers : List ℕ) (given : Given) → AreNumbers words numbers →
+numbers_alone : (words : List (List ℕ)) (numbers : List ℕ) (given : Given) → AreSessionNumbers words numbers →
     goes_over (at_options given) [] words ≡ Some (given, numbers)
 numbers_alone [] (number ∷ numbers) given are = elim are [ ]
 numbers_alone (word ∷ words) [] given are = elim are [ ]
@@ -109,7 +109,7 @@ numbers_alone [] [] given are = refl
 numbers_alone (word ∷ words) (number ∷ numbers) given are =
     ap (λ (k : Kind). over (next_option_of given k) [] words) (number_kind word number are.0) ∙ numbers_over words numbers (number ∷ []) given are.1
 
-pub rest_over : (end words : List (List ℕ)) (numbers : List ℕ) (given : Given) → IsEnd end → AreNumbers words numbers →
+pub rest_over : (end words : List (List ℕ)) (numbers : List ℕ) (given : Given) → IsEnd end → AreSessionNumbers words numbers →
     goes_over (at_options given) [] (end ++ words) ≡ Some (given, numbers)
 rest_over end words numbers given (inl e) are =
     ap (λ (ws : List (List ℕ)). goes_over (at_options given) [] (ws ++ words)) e ∙ numbers_alone words numbers given are
@@ -125,13 +125,13 @@ abbrev mode_of_found : List ℕ → Option (Given × List ℕ) → Option Words
 mode_of_found first found = elim found [ Some all ↦ mode_says all.0 (mode_of first all.0 all.1) | None ↦ None ]
 
 start_says : (first second : List ℕ) (start size : ℕ) → number_up_to LAST_START first ≡ Some start → number_up_to MOST_ROUNDS second ≡ Some size →
-    start_words first second ≡ Some (says (mode.Make start size) nothing_given)
+    start_words first second ≡ Some (says_mode (mode.Make start size) nothing_given)
 start_says first second start size a b =
-    ap (λ (o : Option ℕ). elim o [ Some s ↦ elim (number_up_to MOST_ROUNDS second) [ Some r ↦ Some (says (mode.Make s r) nothing_given) | None ↦ None ] | None ↦ None ]) a
-    ∙ ap (λ (o : Option ℕ). elim o [ Some r ↦ Some (says (mode.Make start r) nothing_given) | None ↦ None ]) b
+    ap (λ (o : Option ℕ). elim o [ Some s ↦ elim (number_up_to MOST_ROUNDS second) [ Some r ↦ Some (says_mode (mode.Make s r) nothing_given) | None ↦ None ] | None ↦ None ]) a
+    ∙ ap (λ (o : Option ℕ). elim o [ Some r ↦ Some (says_mode (mode.Make start r) nothing_given) | None ↦ None ]) b
 
 made : (end : List (List ℕ)) (first second : List ℕ) (start size : ℕ) → IsEnd end → number_up_to LAST_START first ≡ Some start →
-    number_up_to MOST_ROUNDS second ≡ Some size → made_words (end ++ (first ∷ second ∷ [])) ≡ Some (says (mode.Make start size) nothing_given)
+    number_up_to MOST_ROUNDS second ≡ Some size → made_words (end ++ (first ∷ second ∷ [])) ≡ Some (says_mode (mode.Make start size) nothing_given)
 made end first second start size (inl e) a b =
     ap (λ (ws : List (List ℕ)). made_words (ws ++ (first ∷ second ∷ []))) e
     ∙ ap (λ (t : Bool). two_words (if t then second ∷ [] else first ∷ second ∷ [])) (number_no_end LAST_START first start a)

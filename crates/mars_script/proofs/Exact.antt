@@ -4,18 +4,18 @@ use Rattle.mars_script.specs.declared.words.Words.{Words}
 use Rattle.mars_script.specs.declared.words.WordsError.{WordsError}
 use Rattle.mars_script.specs.declared.words.WordsError.TheVariants as why
 use Rattle.mars_script.specs.Words.{IsWords}
-use Rattle.mars_script.specs.WordsInside.{IsSaid, words_in}
+use Rattle.mars_script.specs.WordsInside.{AnswersFound, words_in}
 use Rattle.mars_script.proofs.Complete.{words_complete}
 use Rattle.mars_script.proofs.Sound.{words_sound}
 
-pub said_read : (texts : List (List ℕ)) (answer : Result Words WordsError) → IsSaid (words_in texts) answer → IfOk answer (λ said. IsWords texts said)
+pub said_read : (texts : List (List ℕ)) (answer : Result Words WordsError) → AnswersFound (words_in texts) answer → IfOk answer (λ said. IsWords texts said)
 said_read texts (Ok said) h = words_sound texts said h
 said_read texts (Err error) h = tt
 
 unsaid : (texts : List (List ℕ)) (said : Words) → words_in texts ≡ None → IsWords texts said → ⊥
 unsaid texts said e is = let both : None ≡ Some said = sym e ∙ words_complete is in cc
 
-pub said_refused : (texts : List (List ℕ)) (answer : Result Words WordsError) → IsSaid (words_in texts) answer →
+pub said_refused : (texts : List (List ℕ)) (answer : Result Words WordsError) → AnswersFound (words_in texts) answer →
     IfErr answer (λ error. error ≡ why.Bad → (said : Words) → IsWords texts said → ⊥)
 said_refused texts (Ok said) h = tt
 said_refused texts (Err error) h = λ bad said. unsaid texts said (h bad)

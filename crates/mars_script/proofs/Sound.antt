@@ -17,7 +17,7 @@ use Rattle.mars_script.specs.declared.words.TheConstants.{MOST_STEPS, MOST_ROWS,
 use Rattle.mars_script.specs.Given.{given_steps, given_rows, given_log}
 use Rattle.mars_script.specs.KindsInside.{after, kind_of, kind_of_value}
 use Rattle.mars_script.specs.StepsInside.{at_phase, at_options, next_option_of, next_in, goes_over}
-use Rattle.mars_script.specs.Words.{AreOptions, no_option, steps, steps_are, rows, rows_are, log, IsEnd, AreNumbers, IsWords, no_word, run, order, replay, make, nothing_given, says}
+use Rattle.mars_script.specs.Words.{AreOptions, no_option, steps, steps_are, rows, rows_are, log, IsEnd, AreSessionNumbers, IsWords, no_word, run, order, replay, make, nothing_given, says_mode}
 use Rattle.mars_script.specs.WordsInside.{mode_of, plain_mode, mode_says, mode_words, start_words, two_words, without_end, made_words, words_in}
 use Rattle.mars_script.specs.Written.{number_up_to}
 use Rattle.mars_script.proofs.Complete.{over}
@@ -96,7 +96,7 @@ kind_is word =
 -- what comes after `given` options: the rest of them, the word that ends them, and the numbers
 data IsRest : Given → List (List ℕ) → Given → List ℕ → Type 0 where
   is_rest : {given later : Given} {options end : List (List ℕ)} (words : List (List ℕ)) (numbers : List ℕ) →
-      AreOptions given options later → IsEnd end → AreNumbers words numbers → IsRest given (options ++ (end ++ words)) later numbers
+      AreOptions given options later → IsEnd end → AreSessionNumbers words numbers → IsRest given (options ++ (end ++ words)) later numbers
 
 allowed : (b : Bool) (state : State) (words : List (List ℕ)) (r : Given × List ℕ) → over (cond b (step.Goes state) step.Refused) [] words ≡ Some r →
     (b ≡ true) × (goes_over state [] words ≡ Some r)
@@ -114,7 +114,7 @@ off_is true e = sym e
 -- numbers alone, after those before them
 record IsRow (given : Given) (before : List ℕ) (words : List (List ℕ)) (r : Given × List ℕ) : Type 0 where
   numbers : List ℕ
-  are : AreNumbers words numbers
+  are : AreSessionNumbers words numbers
   given_is : r.0 ≡ given
   all_is : r.1 ≡ before ++ numbers
 
@@ -236,16 +236,16 @@ record IsMade (words : List (List ℕ)) (said : Words) : Type 0 where
   words_are : words ≡ first ∷ second ∷ []
   start_is : number_up_to LAST_START first ≡ Some start
   size_is : number_up_to MOST_ROUNDS second ≡ Some size
-  said_is : said ≡ says (mode.Make start size) nothing_given
+  said_is : said ≡ says_mode (mode.Make start size) nothing_given
 
 size_found : (first second : List ℕ) (said : Words) (start : ℕ) (found : Option ℕ) → number_up_to LAST_START first ≡ Some start → number_up_to MOST_ROUNDS second ≡ found →
-    elim found [ Some size ↦ Some (says (mode.Make start size) nothing_given) | None ↦ None ] ≡ Some said → IsMade (first ∷ second ∷ []) said
+    elim found [ Some size ↦ Some (says_mode (mode.Make start size) nothing_given) | None ↦ None ] ≡ Some said → IsMade (first ∷ second ∷ []) said
 size_found first second said start (Some size) a b e =
     record { first = first; second = second; start = start; size = size; words_are = refl; start_is = a; size_is = b; said_is = sym (some_inj _ said e) }
 size_found first second said start None a b e = no_some said e
 
 start_found : (first second : List ℕ) (said : Words) (found : Option ℕ) → number_up_to LAST_START first ≡ found →
-    elim found [ Some start ↦ elim (number_up_to MOST_ROUNDS second) [ Some size ↦ Some (says (mode.Make start size) nothing_given) | None ↦ None ] | None ↦ None ] ≡ Some said →
+    elim found [ Some start ↦ elim (number_up_to MOST_ROUNDS second) [ Some size ↦ Some (says_mode (mode.Make start size) nothing_given) | None ↦ None ] | None ↦ None ] ≡ Some said →
     IsMade (first ∷ second ∷ []) said
 start_found first second said (Some start) a e = size_found first second said start (number_up_to MOST_ROUNDS second) a refl e
 start_found first second said None a e = no_some said e
@@ -272,12 +272,12 @@ make_found : (rest : List (List ℕ)) (said : Words) → made_words rest ≡ Som
 make_found [] said e = no_some said e
 make_found (first ∷ rest) said e = by_dashes (pointwise nat_eq first (codes "--")) first rest said refl e
 
-no_numbers : (words : List (List ℕ)) → AreNumbers words [] → words ≡ []
+no_numbers : (words : List (List ℕ)) → AreSessionNumbers words [] → words ≡ []
 no_numbers [] are = refl
 no_numbers (word ∷ words) are = elim are [ ]
 
 order_is : (later : Given) (rest : List (List ℕ)) (numbers : List ℕ) → IsRest nothing_given rest later numbers →
-    IsWords (codes "order" ∷ rest) (says (mode.Order numbers) later)
+    IsWords (codes "order" ∷ rest) (says_mode (mode.Order numbers) later)
 order_is later _ _ (is_rest words numbers are last all) = order words are last all
 
 -- options and the word that ends them, without numbers
@@ -293,12 +293,12 @@ plain_is later _ (is_rest {options = options} {end = end} words _ are last all) 
     record { options = options; end = end; are = are; last = last;
       rest_is = ap (λ (ws : List (List ℕ)). options ++ (end ++ ws)) (no_numbers words all) ∙ ap (λ (ws : List (List ℕ)). options ++ ws) (append-nil end) }
 
-run_is : (later : Given) (rest : List (List ℕ)) → IsPlain rest later → IsWords (codes "run" ∷ rest) (says mode.Run later)
-run_is later rest p = subst (λ (ws : List (List ℕ)). IsWords (codes "run" ∷ ws) (says mode.Run later)) (sym p.rest_is) (run p.are p.last)
+run_is : (later : Given) (rest : List (List ℕ)) → IsPlain rest later → IsWords (codes "run" ∷ rest) (says_mode mode.Run later)
+run_is later rest p = subst (λ (ws : List (List ℕ)). IsWords (codes "run" ∷ ws) (says_mode mode.Run later)) (sym p.rest_is) (run p.are p.last)
 
-replay_is : (later : Given) (rest : List (List ℕ)) → later.log ≡ false → IsPlain rest later → IsWords (codes "replay" ∷ rest) (says mode.Replay later)
+replay_is : (later : Given) (rest : List (List ℕ)) → later.log ≡ false → IsPlain rest later → IsWords (codes "replay" ∷ rest) (says_mode mode.Replay later)
 replay_is later rest unlogged p =
-    subst (λ (ws : List (List ℕ)). IsWords (codes "replay" ∷ ws) (says mode.Replay later)) (sym p.rest_is) (replay p.are unlogged p.last)
+    subst (λ (ws : List (List ℕ)). IsWords (codes "replay" ∷ ws) (says_mode mode.Replay later)) (sym p.rest_is) (replay p.are unlogged p.last)
 
 named : (first word : List ℕ) (rest : List (List ℕ)) (said : Words) → pointwise nat_eq first word ≡ true → IsWords (word ∷ rest) said → IsWords (first ∷ rest) said
 named first word rest said e is = subst (λ (w : List ℕ). IsWords (w ∷ rest) said) (sym ((bytes_decides first word).0 e)) is

@@ -3,7 +3,7 @@ use Rattle.std.specs.Prelude.{◌≡◌, ℕ, List, [], ◌∷◌, Some, None, t
 use Rattle.mars_script.specs.declared.steps.Given.{Given}
 use Rattle.mars_script.specs.declared.words.Mode.TheVariants as mode
 use Rattle.mars_script.specs.declared.words.Words.{Words}
-use Rattle.mars_script.specs.Words.{IsWords, nothing_given, says}
+use Rattle.mars_script.specs.Words.{IsWords, nothing_given, says_mode}
 use Rattle.mars_script.specs.Written.{number_up_to}
 
 -- a list that isn't accepted
@@ -19,11 +19,11 @@ logged = record { steps = None; rows = None; log = true }
 
 -- what short lists of words say, and some that say nothing
 pub record WordExamples : Type 0 where
-  pub no_words : IsWords [] (says mode.Run nothing_given)
-  pub steps : IsWords (codes "run" ∷ codes "--steps" ∷ codes "5" ∷ []) (says mode.Run five_steps)
-  pub steps_are : IsWords (codes "replay" ∷ codes "--steps=+05" ∷ codes "--" ∷ []) (says mode.Replay five_steps)
-  pub order : IsWords (codes "order" ∷ codes "--log" ∷ codes "1" ∷ codes "0" ∷ []) (says (mode.Order (1 ∷ 0 ∷ [])) logged)
-  pub make : IsWords (codes "make" ∷ codes "--" ∷ codes "0" ∷ codes "2" ∷ []) (says (mode.Make 0 2) nothing_given)
+  pub no_words : IsWords [] (says_mode mode.Run nothing_given)
+  pub steps : IsWords (codes "run" ∷ codes "--steps" ∷ codes "5" ∷ []) (says_mode mode.Run five_steps)
+  pub steps_are : IsWords (codes "replay" ∷ codes "--steps=+05" ∷ codes "--" ∷ []) (says_mode mode.Replay five_steps)
+  pub order : IsWords (codes "order" ∷ codes "--log" ∷ codes "1" ∷ codes "0" ∷ []) (says_mode (mode.Order (1 ∷ 0 ∷ [])) logged)
+  pub make : IsWords (codes "make" ∷ codes "--" ∷ codes "0" ∷ codes "2" ∷ []) (says_mode (mode.Make 0 2) nothing_given)
   pub unknown : IsOutside (codes "walk" ∷ [])
   pub twice : IsOutside (codes "run" ∷ codes "--steps" ∷ codes "5" ∷ codes "--steps=5" ∷ [])
   pub late : IsOutside (codes "order" ∷ codes "1" ∷ codes "--log" ∷ [])

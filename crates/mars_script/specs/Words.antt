@@ -22,8 +22,8 @@ abbrev pub options_of : Given → Options
 options_of given = record { budget = unwrap_or given.steps USUAL_STEPS; rows = unwrap_or given.rows MOST_ROWS; log = given.log }
 
 -- a mode with options
-abbrev pub says : Mode → Given → Words
-says mode given = record { mode = mode; options = options_of given }
+abbrev pub says_mode : Mode → Given → Words
+says_mode mode given = record { mode = mode; options = options_of given }
 
 -- options, each at most once: what was given before them, the words, and what is given after them
 pub data AreOptions : Given → List (List ℕ) → Given → Type 0 where
@@ -44,19 +44,19 @@ abbrev pub IsEnd : List (List ℕ) → Type 0
 IsEnd words = (words ≡ []) ⊎ (words ≡ codes "--" ∷ [])
 
 -- each word is the number of a session, and these are the numbers
-abbrev pub AreNumbers : List (List ℕ) → List ℕ → Type 0
-AreNumbers [] [] = ⊤
-AreNumbers (word ∷ words) (number ∷ numbers) = (number_up_to LAST_SESSION word ≡ Some number) × AreNumbers words numbers
-AreNumbers _ _ = ⊥
+abbrev pub AreSessionNumbers : List (List ℕ) → List ℕ → Type 0
+AreSessionNumbers [] [] = ⊤
+AreSessionNumbers (word ∷ words) (number ∷ numbers) = (number_up_to LAST_SESSION word ≡ Some number) × AreSessionNumbers words numbers
+AreSessionNumbers _ _ = ⊥
 
 -- a list of words that is accepted, and what it says
 pub data IsWords : List (List ℕ) → Words → Type 0 where
-  no_word : IsWords [] (says mode.Run nothing_given)
+  no_word : IsWords [] (says_mode mode.Run nothing_given)
   run : {options end : List (List ℕ)} {given : Given} → AreOptions nothing_given options given → IsEnd end →
-      IsWords (codes "run" ∷ (options ++ end)) (says mode.Run given)
+      IsWords (codes "run" ∷ (options ++ end)) (says_mode mode.Run given)
   order : {options end : List (List ℕ)} {given : Given} (words : List (List ℕ)) {numbers : List ℕ} → AreOptions nothing_given options given → IsEnd end →
-      AreNumbers words numbers → IsWords (codes "order" ∷ (options ++ (end ++ words))) (says (mode.Order numbers) given)
+      AreSessionNumbers words numbers → IsWords (codes "order" ∷ (options ++ (end ++ words))) (says_mode (mode.Order numbers) given)
   replay : {options end : List (List ℕ)} {given : Given} → AreOptions nothing_given options given → given.log ≡ false → IsEnd end →
-      IsWords (codes "replay" ∷ (options ++ end)) (says mode.Replay given)
+      IsWords (codes "replay" ∷ (options ++ end)) (says_mode mode.Replay given)
   make : {end : List (List ℕ)} (first second : List ℕ) {start size : ℕ} → IsEnd end → number_up_to LAST_START first ≡ Some start →
-      number_up_to MOST_ROUNDS second ≡ Some size → IsWords (codes "make" ∷ (end ++ (first ∷ second ∷ []))) (says (mode.Make start size) nothing_given)
+      number_up_to MOST_ROUNDS second ≡ Some size → IsWords (codes "make" ∷ (end ++ (first ∷ second ∷ []))) (says_mode (mode.Make start size) nothing_given)

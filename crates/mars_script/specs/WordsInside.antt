@@ -9,12 +9,12 @@ use Rattle.mars_script.specs.declared.words.WordsError.{WordsError}
 use Rattle.mars_script.specs.declared.words.WordsError.TheVariants as why
 use Rattle.mars_script.specs.declared.words.TheConstants.{LAST_START, MOST_ROUNDS}
 use Rattle.mars_script.specs.StepsInside.{goes_over, at_options}
-use Rattle.mars_script.specs.Words.{nothing_given, says}
+use Rattle.mars_script.specs.Words.{nothing_given, says_mode}
 use Rattle.mars_script.specs.Written.{number_up_to}
 
 -- the answer is what was found, and bad where nothing was
-abbrev pub IsSaid : Option Words → Result Words WordsError → Type 0
-IsSaid found answer = MatchResult answer (λ said. found ≡ Some said) (λ error. error ≡ why.Bad → found ≡ None)
+abbrev pub AnswersFound : Option Words → Result Words WordsError → Type 0
+AnswersFound found answer = MatchResult answer (λ said. found ≡ Some said) (λ error. error ≡ why.Bad → found ≡ None)
 
 -- a mode that takes no numbers
 abbrev pub plain_mode : List ℕ → Given → Option Mode
@@ -29,7 +29,7 @@ mode_of word given numbers =
 
 -- what a mode says, where there is one
 abbrev pub mode_says : Given → Option Mode → Option Words
-mode_says given (Some mode) = Some (says mode given)
+mode_says given (Some mode) = Some (says_mode mode given)
 mode_says given None = None
 
 -- what the words say after a first one other than `make`
@@ -39,7 +39,7 @@ mode_words first rest = elim (goes_over (at_options nothing_given) [] rest) [ So
 -- what a start and a size say
 abbrev pub start_words : List ℕ → List ℕ → Option Words
 start_words first second = elim (number_up_to LAST_START first) [
-    Some start ↦ elim (number_up_to MOST_ROUNDS second) [ Some size ↦ Some (says (mode.Make start size) nothing_given) | None ↦ None ]
+    Some start ↦ elim (number_up_to MOST_ROUNDS second) [ Some size ↦ Some (says_mode (mode.Make start size) nothing_given) | None ↦ None ]
   | None ↦ None
   ]
 
@@ -59,5 +59,5 @@ made_words words = two_words (without_end words)
 
 -- what words say
 abbrev pub words_in : List (List ℕ) → Option Words
-words_in [] = Some (says mode.Run nothing_given)
+words_in [] = Some (says_mode mode.Run nothing_given)
 words_in (first ∷ rest) = if pointwise nat_eq first (codes "make") then made_words rest else mode_words first rest

@@ -3,7 +3,7 @@ ghost use Rattle.std.specs.Prelude.{◌≡◌, [], List, ℕ, IfOk, IfErr};
 ghost use Rattle.std.specs.Option.{option_map};
 ghost use Rattle.mars_script.specs.Words.{IsWords, texts_of, options_of, nothing_given};
 ghost use Rattle.mars_script.specs.StepsInside.{goes_over, at_options, at_end};
-ghost use Rattle.mars_script.specs.WordsInside.{IsSaid, mode_words, mode_of, made_words, start_words, without_end, words_in};
+ghost use Rattle.mars_script.specs.WordsInside.{AnswersFound, mode_words, mode_of, made_words, start_words, without_end, words_in};
 ghost use Rattle.mars_script.specs.declared.words.Words.{Words};
 ghost use Rattle.mars_script.specs.declared.words.WordsError.TheVariants as why;
 
@@ -25,7 +25,7 @@ pub fn read_words(alloc: Global, words: &[String]) -> Result<Words, WordsError>
 
 /// What a list of words says.
 fn read_list(alloc: Global, words: &[String]) -> Result<Words, WordsError>
-    ensures { IsSaid (words_in (texts_of words.now)) result }
+    ensures { AnswersFound (words_in (texts_of words.now)) result }
 {
     let Some((first, rest)) = words.split_first() else {
         return Ok(plain(Mode::Run));
@@ -67,7 +67,7 @@ fn options_of(given: Given) -> Options
 
 /// What the words say after a first one other than `make`.
 fn read_mode(alloc: Global, first: &str, rest: &[String]) -> Result<Words, WordsError>
-    ensures { IsSaid (mode_words first.now (texts_of rest.now)) result }
+    ensures { AnswersFound (mode_words first.now (texts_of rest.now)) result }
 {
     let mut numbers = Vec::new(alloc);
     let Some(given) = read_rest(rest, &mut numbers)? else {
@@ -103,7 +103,7 @@ fn mode_of(word: &str, given: Given, numbers: Vec<u32>) -> Option<Mode>
 
 /// What the words after `make` say.
 fn read_make(words: &[String]) -> Result<Words, WordsError>
-    ensures { IsSaid (made_words (texts_of words.now)) result }
+    ensures { AnswersFound (made_words (texts_of words.now)) result }
 {
     let numbers = after_end(words);
     if numbers.len() != 2 {
@@ -124,7 +124,7 @@ fn after_end(words: &[String]) -> &[String]
 
 /// What a start and a size say.
 fn read_start(start: &str, size: &str) -> Result<Words, WordsError>
-    ensures { IsSaid (start_words start.now size.now) result }
+    ensures { AnswersFound (start_words start.now size.now) result }
 {
     let Some(start) = read_number(start, LAST_START) else {
         return Err(WordsError::Bad);

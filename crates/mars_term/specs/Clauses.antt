@@ -24,24 +24,24 @@ abbrev pub parts_of_rule : Rule → List Term
 parts_of_rule rule = parts_of rule.head ++ parts_of_goals rule.body
 
 -- numbers that go by first appearance: with `next` numbers known, each is a known one or the next, and at last `total` are known
-abbrev pub AreNumbered : ℕ → ℕ → List ℕ → Type 0
-AreNumbered next total [] = next ≡ total
-AreNumbered next total (number ∷ numbers) = (number ≤ next) × AreNumbered (max next (number + 1)) total numbers
+abbrev pub NumberedByAppearance : ℕ → ℕ → List ℕ → Type 0
+NumberedByAppearance next total [] = next ≡ total
+NumberedByAppearance next total (number ∷ numbers) = (number ≤ next) × NumberedByAppearance (max next (number + 1)) total numbers
 
 -- a term that is a name, with arguments or without
-abbrev pub IsApplied : Term → Type 0
-IsApplied term = (name : NameId) × (terms : List Term) × (term ≡ Name name terms)
+abbrev pub IsNameTerm : Term → Type 0
+IsNameTerm term = (name : NameId) × (terms : List Term) × (term ≡ Name name terms)
 
 -- a rule that is well formed
 pub record IsRule (rule : Rule) : Type 0 where
-  pub head : IsApplied rule.head
+  pub head : IsNameTerm rule.head
   pub vars : All (λ number. number < rule.vars) (vars_of (parts_of_rule rule))
   pub kept : kept_of (parts_of_rule rule) ≡ []
   pub short : All HasShortList (parts_of_rule rule)
 
 -- an ask that is well formed
 pub record IsAsk (ask : Ask) : Type 0 where
-  pub numbered : AreNumbered 0 (length ask.vars) (vars_of (parts_of_goals ask.goals))
+  pub numbered : NumberedByAppearance 0 (length ask.vars) (vars_of (parts_of_goals ask.goals))
   pub distinct : AreDistinct ask.vars
   pub kept : All (λ number. number < length ask.kept) (kept_of (parts_of_goals ask.goals))
   pub short : All HasShortList (parts_of_goals ask.goals)

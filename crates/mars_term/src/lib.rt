@@ -1,10 +1,8 @@
-//! Terms, goals, rules and asks, as the reader gives them: plain values with equality and hash.
+//! Terms, goals, rules and asks, as the reader gives them: plain values.
 #![tactic(auto)]
 
 mod clause;
-mod comparing;
 mod copying;
-mod hashing;
 mod laws;
 mod term;
 
