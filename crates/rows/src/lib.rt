@@ -11,6 +11,7 @@ mod operands;
 mod shapes;
 mod stopping;
 mod texts;
+mod verdicts;
 
 pub use answering::answer_rows;
 pub use drawing::Draw;
@@ -23,3 +24,4 @@ pub use operands::{Operand, Operands, read_operands};
 pub use shapes::{list, ring, tuples};
 pub use stopping::Stop;
 pub use texts::{push_text, push_tree};
+pub use verdicts::verdict;

@@ -8,7 +8,7 @@ use mars_store::{NodeId, Store};
 use mars_watch::{Line, Watchers};
 use std::alloc::Global;
 
-/// A word as a name and a number behind a colon, 0 where there is none.
+/// A word as a name and the number after its colon, 0 where there is none.
 fn number_of(word: &str) -> (&str, usize) {
     match word.split_once(':') {
         Some((name, number)) => (name, number.parse::<usize>().unwrap_or(0)),
@@ -60,7 +60,7 @@ fn change_line(
     Ok(())
 }
 
-/// Takes out the items at the places that stand behind a colon, with commas between them.
+/// Takes out the items at the places after a colon, with commas between them.
 fn leave(
     alloc: Global,
     line: &mut Line<usize>,
@@ -99,7 +99,7 @@ fn are_ascending(places: &[usize], size: usize) -> bool
 /// How many variables a row of watchers may speak of.
 const VARIABLES: usize = 4;
 
-/// Runs a row of watchers: `watch:1:10` lets item 10 wait at variable 1, `gather:1` gathers what waits there behind what
+/// Runs a row of watchers: `watch:1:10` lets item 10 wait at variable 1, `gather:1` gathers what waits there after what
 /// was gathered before, `undo:2`, `len`.
 pub(crate) fn put_watchers(alloc: Global, words: &str, into: &mut Vec<u8>) -> Result<(), NoMemory> {
     let mut store = Store::new(alloc);
@@ -144,7 +144,7 @@ fn change_watchers(
     Ok(())
 }
 
-/// Lets an item wait at a variable: both numbers stand behind colons.
+/// Lets an item wait at a variable: both numbers come after colons.
 fn watch(watchers: &mut Watchers, vars: &[NodeId], word: &str) -> Result<(), NoMemory> {
     if let Some((_watch, numbers)) = word.split_once(':') {
         let (at, item) = number_of(numbers);

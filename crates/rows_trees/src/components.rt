@@ -3,9 +3,9 @@
 ghost use Rattle.std.specs.Prelude.{◌≡◌, length, IfOk};
 
 use mars_base::NoMemory;
-use mars_comp::{Components, Item, Key, components, key, least};
+use mars_comp::{Components, Item, Key, Least, components, key, least};
 use mars_tree::{Graph, Names};
-use rows::{Layout, Stop, push_label, push_number, push_numbers, read_nodes, read_numbers};
+use rows::{Layout, Stop, push_label, push_number, push_numbers, read_numbers};
 use std::alloc::Global;
 
 /// The component of a node, none where there is no such node.
@@ -46,19 +46,23 @@ fn push_component(parts: &Components, node: usize, into: &mut Vec<u8>) -> Result
     Ok(())
 }
 
-/// Answers with the nodes of each component, and with whether kids' components come first.
-pub fn answer_components(alloc: Global, rest: &str, into: &mut Vec<u8>) -> Result<(), Stop> {
-    let laid = read_nodes(alloc, rest)?;
-    let parts = components(alloc, &laid.graph)?;
-    into.extend_from_slice(if are_kids_first(&laid.graph, &parts) {
+/// Writes the nodes of each component, and whether kids' components come first.
+fn push_components(graph: &Graph, parts: &Components, into: &mut Vec<u8>) -> Result<(), Stop> {
+    into.extend_from_slice(if are_kids_first(graph, parts) {
         b"kids first"
     } else {
         b"kids later"
     })?;
     for node in 0..parts.len() {
-        push_component(&parts, node, into)?;
+        push_component(parts, node, into)?;
     }
     Ok(())
+}
+
+/// Answers with the nodes of each component, and with whether kids' components come first.
+pub fn answer_components(alloc: Global, graph: &Graph, into: &mut Vec<u8>) -> Result<(), Stop> {
+    let parts = components(alloc, graph)?;
+    push_components(graph, &parts, into)
 }
 
 /// Writes an item of a key: a label, `@` and a place in the key, or a number outside.
@@ -85,14 +89,6 @@ fn push_key(names: &Names, key: &Key, into: &mut Vec<u8>) -> Result<(), NoMemory
     Ok(())
 }
 
-/// A row's graph with a node, and a number for each node.
-#[derive(Drop)]
-struct Keyed {
-    laid: Layout,
-    node: usize,
-    outside: Vec<u128>,
-}
-
 /// The numbers as wide ones.
 fn widened(alloc: Global, numbers: &[usize]) -> Result<Vec<u128>, NoMemory> {
     let mut all = Vec::new(alloc);
@@ -102,56 +98,71 @@ fn widened(alloc: Global, numbers: &[usize]) -> Result<Vec<u128>, NoMemory> {
     Ok(all)
 }
 
-/// Reads `NODE : NUMBERS : NODES`.
-fn read_keyed(alloc: Global, rest: &str) -> Result<Keyed, Stop> {
-    let Some((node, rest)) = rest.split_once(':') else {
+/// Reads the number that each node has outside its component.
+fn read_outside(alloc: Global, text: &str) -> Result<Vec<u128>, Stop> {
+    let numbers = read_numbers(alloc, text)?;
+    Ok(widened(alloc, &numbers)?)
+}
+
+/// Writes the key of a node's component from that node.
+fn push_key_of(
+    alloc: Global,
+    laid: &Layout,
+    node: usize,
+    outside: &[u128],
+    into: &mut Vec<u8>,
+) -> Result<(), Stop> {
+    let graph = &laid.graph;
+    let parts = components(alloc, graph)?;
+    if node >= graph.len() || parts.len() != graph.len() || outside.len() != graph.len() {
         return Err(Stop::OtherParts);
-    };
-    let Some((outside, nodes)) = rest.split_once(':') else {
+    }
+    let key = key(alloc, graph, &parts, node, outside)?;
+    Ok(push_key(&laid.names, &key, into)?)
+}
+
+/// Writes a least key, and the nodes at its places.
+fn push_first(names: &Names, first: &Least, into: &mut Vec<u8>) -> Result<(), NoMemory> {
+    push_key(names, &first.key, into)?;
+    into.extend_from_slice(b"from ")?;
+    push_numbers(&first.nodes, b" ", into)
+}
+
+/// Writes the least key of a node's component, and the nodes at its places.
+fn push_least_key(
+    alloc: Global,
+    laid: &Layout,
+    node: usize,
+    outside: &[u128],
+    into: &mut Vec<u8>,
+) -> Result<(), Stop> {
+    let graph = &laid.graph;
+    let parts = components(alloc, graph)?;
+    if node >= graph.len() || parts.len() != graph.len() || outside.len() != graph.len() {
+        return Err(Stop::OtherParts);
+    }
+    let first = least(alloc, graph, &parts, node, outside)?;
+    Ok(push_first(&laid.names, &first, into)?)
+}
+
+/// Answers with a key of a node's component: that from the node, or the least one with the nodes at its places.
+pub fn answer_keyed(
+    alloc: Global,
+    word: &str,
+    parts: &str,
+    laid: &Layout,
+    into: &mut Vec<u8>,
+) -> Result<(), Stop> {
+    let Some((node, outside)) = parts.split_once(':') else {
         return Err(Stop::OtherParts);
     };
     let Ok(node) = node.trim().parse::<usize>() else {
         return Err(Stop::NoNode);
     };
-    Ok(Keyed {
-        laid: read_nodes(alloc, nodes)?,
-        node,
-        outside: widened(alloc, &read_numbers(alloc, outside)?)?,
-    })
-}
-
-/// Answers with the key of a node's component from that node.
-pub fn answer_key(alloc: Global, rest: &str, into: &mut Vec<u8>) -> Result<(), Stop> {
-    let Keyed {
-        laid,
-        node,
-        outside,
-    } = read_keyed(alloc, rest)?;
-    let graph = &laid.graph;
-    let parts = components(alloc, graph)?;
-    if node >= graph.len() || parts.len() != graph.len() || outside.len() != graph.len() {
-        return Err(Stop::OtherParts);
+    let outside = read_outside(alloc, outside)?;
+    if word == "key" {
+        push_key_of(alloc, laid, node, &outside, into)
+    } else {
+        push_least_key(alloc, laid, node, &outside, into)
     }
-    let key = key(alloc, graph, &parts, node, &outside)?;
-    push_key(&laid.names, &key, into)?;
-    Ok(())
-}
-
-/// Answers with the least key of a node's component, and with the nodes at its places.
-pub fn answer_least_key(alloc: Global, rest: &str, into: &mut Vec<u8>) -> Result<(), Stop> {
-    let Keyed {
-        laid,
-        node,
-        outside,
-    } = read_keyed(alloc, rest)?;
-    let graph = &laid.graph;
-    let parts = components(alloc, graph)?;
-    if node >= graph.len() || parts.len() != graph.len() || outside.len() != graph.len() {
-        return Err(Stop::OtherParts);
-    }
-    let first = least(alloc, graph, &parts, node, &outside)?;
-    push_key(&laid.names, &first.key, into)?;
-    into.extend_from_slice(b"from ")?;
-    push_numbers(&first.nodes, b" ", into)?;
-    Ok(())
 }

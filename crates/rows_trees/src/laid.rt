@@ -1,15 +1,8 @@
-//! Rows `nodes NODES`, which lay out a graph node by node and read it again, and the row `lists`, a graph of two lists.
+//! The row `lists`, a graph of two lists.
 use mars_base::NoMemory;
 use mars_tree::{Graph, Label, NameId, Names};
-use rows::{Stop, push_graph, push_nodes, read_nodes};
+use rows::{Stop, push_nodes};
 use std::alloc::Global;
-
-/// Answers with the nodes, each with its label and its kids.
-pub fn answer_nodes(alloc: Global, rest: &str, into: &mut Vec<u8>) -> Result<(), Stop> {
-    let laid = read_nodes(alloc, rest)?;
-    push_graph(&laid.names, &laid.graph, into)?;
-    Ok(())
-}
 
 /// A dot over a node and a free leaf, the free leaf, and the built-in name `eq` over the dot.
 fn dot_and_leaf(alloc: Global) -> Result<Graph, NoMemory> {

@@ -1,22 +1,16 @@
-//! Answers rows on trees: what each public call of the crates from `mars_tree` to `mars_print` gives, on worked cases, on
-//! large shapes and on many small graphs. `stdin` has the rows, `stdout` the rows with their answers.
+//! Answers rows on graphs: what each public call of `mars_tree`, `mars_reach`, `mars_refine` and `mars_comp` gives, on worked
+//! cases and on large shapes. `stdin` has the rows, `stdout` the rows with their answers.
 #![tactic(auto)]
 
-mod canonical;
-mod compare;
 mod components;
-mod draws;
 mod equality;
+mod growing;
 mod laid;
-mod plain;
-mod printing;
 mod reaching;
-mod reading;
 mod refining;
-mod smallest;
 mod spellings;
 
-use rows::{Stop, answer_rows};
+use rows::{Layout, Stop, answer_rows, push_graph, read_nodes, read_numbers};
 use std::alloc::Global;
 use std::io;
 
@@ -28,39 +22,58 @@ fn main(rt: HostRuntime) -> io::Result<()> {
 fn answer(alloc: Global, word: &str, rest: &str, into: &mut Vec<u8>) -> Result<(), Stop> {
     match word {
         "same" => equality::answer_same(alloc, rest, into),
-        "nodes" => laid::answer_nodes(alloc, rest, into),
+        "count" => refining::answer_count(alloc, rest, into),
         "lists" => laid::answer_lists(alloc, into),
         "names" => spellings::answer_names(alloc, rest, into),
+        "listed" => spellings::answer_listed(alloc, rest, into),
         "order" => reaching::answer_order(alloc, rest, into),
-        "reached" => reaching::answer_reached(alloc, rest, into),
-        "part" => reaching::answer_part(alloc, rest, into),
-        "free" => reaching::answer_free(alloc, rest, into),
-        "classes" => refining::answer_classes(alloc, rest, into),
-        "count" => refining::answer_count(alloc, rest, into),
-        "least" => smallest::answer_least(alloc, rest, into),
-        "three" => draws::answer_three(alloc, into),
-        "drawn" => draws::answer_drawn(alloc, rest, into),
-        _ => answer_form(alloc, word, rest, into),
+        _ => answer_laid(alloc, word, rest, into),
     }
 }
 
-/// The answer of a row on canonical graphs, components, inputs or texts.
-fn answer_form(alloc: Global, word: &str, rest: &str, into: &mut Vec<u8>) -> Result<(), Stop> {
+/// The answer of a row that lays out a graph after its last colon.
+fn answer_laid(alloc: Global, word: &str, rest: &str, into: &mut Vec<u8>) -> Result<(), Stop> {
+    let (parts, nodes) = match rest.rsplit_once(':') {
+        Some((parts, nodes)) => (parts, nodes),
+        None => ("", rest),
+    };
+    let laid = read_nodes(alloc, nodes)?;
+    answer_on(alloc, word, parts, &laid, into)
+}
+
+/// The answer of a row on a graph.
+fn answer_on(
+    alloc: Global,
+    word: &str,
+    parts: &str,
+    laid: &Layout,
+    into: &mut Vec<u8>,
+) -> Result<(), Stop> {
     match word {
-        "canon" => canonical::answer_canon(alloc, rest, into),
-        "layout" => canonical::answer_layout(alloc, rest, into),
-        "form" => canonical::answer_form(alloc, rest, into),
-        "one" => canonical::answer_one(alloc, rest, into),
-        "tree" => canonical::answer_tree(alloc, rest, into),
-        "size" => canonical::answer_size(alloc, rest, into),
-        "twins" => canonical::answer_twins(alloc, rest, into),
-        "copy" => canonical::answer_copy(alloc, rest, into),
-        "components" => components::answer_components(alloc, rest, into),
-        "key" => components::answer_key(alloc, rest, into),
-        "leastkey" => components::answer_least_key(alloc, rest, into),
-        "read" => reading::answer_read(alloc, rest, into),
-        "spelled" => reading::answer_spelled(alloc, rest, into),
-        "print" => printing::answer_print(alloc, rest, into),
+        "nodes" => Ok(push_graph(&laid.names, &laid.graph, into)?),
+        "classes" => refining::answer_classes(alloc, &laid.graph, into),
+        "components" => components::answer_components(alloc, &laid.graph, into),
+        "key" | "leastkey" => components::answer_keyed(alloc, word, parts, laid, into),
+        _ => {
+            let roots = read_numbers(alloc, parts)?;
+            answer_roots(alloc, word, &roots, laid, into)
+        }
+    }
+}
+
+/// The answer of a row on a graph and some of its nodes.
+fn answer_roots(
+    alloc: Global,
+    word: &str,
+    roots: &[usize],
+    laid: &Layout,
+    into: &mut Vec<u8>,
+) -> Result<(), Stop> {
+    match word {
+        "part" => reaching::answer_part(alloc, roots, laid, into),
+        "reached" => reaching::answer_reached(alloc, roots, &laid.graph, into),
+        "free" => reaching::answer_free(alloc, roots, &laid.graph, into),
+        "grown" => growing::answer_grown(alloc, roots, laid, into),
         _ => Err(Stop::NoRow),
     }
 }

@@ -1,7 +1,7 @@
 //! Rows `least TREE`: the smallest graph of what roots reach.
 use mars_minim::{Minimal, minimise};
 use mars_tree::Names;
-use rows::{Stop, are_below, push_nodes, push_number, read_operands};
+use rows::{Operand, Stop, are_below, push_nodes, push_number};
 use std::alloc::Global;
 
 /// Writes the nodes of a smallest graph where it has one, and else how many there are.
@@ -26,17 +26,9 @@ fn first_place(numbers: &[usize], place: usize) -> usize {
     place
 }
 
-/// Answers with the smallest graph, and for each root with the place of the first root that is the same node.
-pub fn answer_least(alloc: Global, rest: &str, into: &mut Vec<u8>) -> Result<(), Stop> {
-    let trees = read_operands(alloc, rest)?;
-    let [tree] = trees.all.as_slice() else {
-        return Err(Stop::OtherParts);
-    };
-    if !are_below(&tree.roots, tree.graph.len()) {
-        return Err(Stop::NoNode);
-    }
-    let least = minimise(alloc, &tree.graph, &tree.roots)?;
-    push_minimal(&trees.names, &least, into)?;
+/// Writes a smallest graph, and for each root the place of the first root that is the same node.
+fn push_least(names: &Names, least: &Minimal, into: &mut Vec<u8>) -> Result<(), Stop> {
+    push_minimal(names, least, into)?;
     into.extend_from_slice(b", roots:")?;
     let roots = least.roots.as_slice();
     for place in 0..roots.len() {
@@ -44,4 +36,18 @@ pub fn answer_least(alloc: Global, rest: &str, into: &mut Vec<u8>) -> Result<(),
         push_number(first_place(roots, place), into)?;
     }
     Ok(())
+}
+
+/// Answers with the smallest graph, and for each root with the place of the first root that is the same node.
+pub fn answer_least(
+    alloc: Global,
+    names: &Names,
+    tree: &Operand,
+    into: &mut Vec<u8>,
+) -> Result<(), Stop> {
+    if !are_below(&tree.roots, tree.graph.len()) {
+        return Err(Stop::NoNode);
+    }
+    let least = minimise(alloc, &tree.graph, &tree.roots)?;
+    push_least(names, &least, into)
 }

@@ -3,7 +3,7 @@
 ghost use Rattle.std.specs.Prelude.{◌<◌};
 
 use mars_base::NoMemory;
-use mars_read::{First, read_first};
+use mars_read::{First, FirstPut, read_first};
 use mars_tree::{NameId, Names};
 use rows::{Stop, push_number};
 use std::alloc::Global;
@@ -56,19 +56,29 @@ fn input_of(alloc: Global, rest: &str) -> Result<String, Stop> {
     Ok(input)
 }
 
-/// Reads the input that a row writes.
-fn read_input(alloc: Global, rest: &str) -> Result<First, Stop> {
-    let input = input_of(alloc, rest)?;
-    match read_first(alloc, input.as_bytes())? {
+/// Reads an input.
+fn read_bytes(alloc: Global, input: &[u8]) -> Result<First, Stop> {
+    match read_first(alloc, input)? {
         Some(first) => Ok(first),
         None => Err(Stop::Refused),
     }
 }
 
+/// Reads the input that a row writes.
+fn read_input(alloc: Global, rest: &str) -> Result<First, Stop> {
+    let input = input_of(alloc, rest)?;
+    read_bytes(alloc, input.as_bytes())
+}
+
+/// How many commands an input has.
+fn count_commands(alloc: Global, rest: &str) -> Result<usize, Stop> {
+    let first = read_input(alloc, rest)?;
+    Ok(first.puts.len())
+}
+
 /// Answers with how many commands there are, or with `refused`.
 pub fn answer_read(alloc: Global, rest: &str, into: &mut Vec<u8>) -> Result<(), Stop> {
-    let first = read_input(alloc, rest)?;
-    push_number(first.puts.len(), into)?;
+    push_number(count_commands(alloc, rest)?, into)?;
     into.extend_from_slice(b" commands")?;
     Ok(())
 }
@@ -82,18 +92,34 @@ fn push_name(names: &Names, name: NameId, into: &mut Vec<u8>) -> Result<(), NoMe
     push_number(name.0 as usize, into)
 }
 
-/// Answers with how many names there are, with the session's, and with the name of each command.
-pub fn answer_spelled(alloc: Global, rest: &str, into: &mut Vec<u8>) -> Result<(), Stop> {
-    let first = read_input(alloc, rest)?;
+/// Writes how many names there are, and the session's.
+fn push_session(first: &First, into: &mut Vec<u8>) -> Result<(), NoMemory> {
     push_number(first.names.len(), into)?;
     into.extend_from_slice(b" names")?;
     if let Some(session) = first.session {
         into.extend_from_slice(b", session ")?;
         push_name(&first.names, session, into)?;
     }
-    for put in first.puts.as_slice() {
+    Ok(())
+}
+
+/// Writes the name of each command.
+fn push_puts(names: &Names, puts: &[FirstPut], into: &mut Vec<u8>) -> Result<(), NoMemory> {
+    for put in puts {
         into.extend_from_slice(b", put ")?;
-        push_name(&first.names, put.name, into)?;
+        push_name(names, put.name, into)?;
     }
     Ok(())
+}
+
+/// Writes how many names there are, the session's, and the name of each command.
+fn push_spelled(first: &First, into: &mut Vec<u8>) -> Result<(), NoMemory> {
+    push_session(first, into)?;
+    push_puts(&first.names, first.puts.as_slice(), into)
+}
+
+/// Answers with how many names there are, with the session's, and with the name of each command.
+pub fn answer_spelled(alloc: Global, rest: &str, into: &mut Vec<u8>) -> Result<(), Stop> {
+    let first = read_input(alloc, rest)?;
+    Ok(push_spelled(&first, into)?)
 }

@@ -57,6 +57,13 @@ fn one_of_fourteen(code: usize) -> Drawn {
     Drawn { label, left, right }
 }
 
+/// Compares three times, from other roots each time.
+fn compare_three(alloc: Global, graph: &Graph, agreed: &mut usize) -> Result<(), Stop> {
+    compare(alloc, graph, &[0], agreed)?;
+    compare(alloc, graph, &[2, 1], agreed)?;
+    compare(alloc, graph, &[1, 0, 2, 1], agreed)
+}
+
 /// Compares all graphs of three nodes with these first two.
 fn compare_with(
     alloc: Global,
@@ -71,9 +78,7 @@ fn compare_with(
             one_of_fourteen(third),
         ];
         let graph = graph_of(alloc, &nodes)?;
-        compare(alloc, &graph, &[0], agreed)?;
-        compare(alloc, &graph, &[2, 1], agreed)?;
-        compare(alloc, &graph, &[1, 0, 2, 1], agreed)?;
+        compare_three(alloc, &graph, agreed)?;
     }
     Ok(())
 }
@@ -86,9 +91,7 @@ pub fn answer_three(alloc: Global, into: &mut Vec<u8>) -> Result<(), Stop> {
             compare_with(alloc, first, second, &mut agreed)?;
         }
     }
-    push_number(agreed, into)?;
-    into.extend_from_slice(b" agree")?;
-    Ok(())
+    push_agreed(agreed, into)
 }
 
 /// A node with kids below eight.
@@ -115,26 +118,47 @@ fn draw_graph(alloc: Global, draw: &mut Draw) -> Result<Graph, NoMemory> {
     graph_of(alloc, &nodes)
 }
 
+/// Compares twice, from other roots each time.
+fn compare_twice(alloc: Global, graph: &Graph, agreed: &mut usize) -> Result<(), Stop> {
+    let last = graph.len().saturating_sub(1);
+    compare(alloc, graph, &[0], agreed)?;
+    compare(alloc, graph, &[last, last / 2, 0], agreed)
+}
+
 /// Draws a graph, and compares twice.
 fn compare_drawn(alloc: Global, draw: &mut Draw, agreed: &mut usize) -> Result<(), Stop> {
     let graph = draw_graph(alloc, draw)?;
-    let last = graph.len().saturating_sub(1);
-    compare(alloc, &graph, &[0], agreed)?;
-    compare(alloc, &graph, &[last, last / 2, 0], agreed)
+    compare_twice(alloc, &graph, agreed)
+}
+
+/// How many comparisons agree of so many graphs of a seed.
+fn agreed_of(alloc: Global, seed: u64, count: usize) -> Result<usize, Stop> {
+    let mut draw = Draw::new(seed);
+    let mut agreed = 0;
+    for _ in 0..count {
+        compare_drawn(alloc, &mut draw, &mut agreed)?;
+    }
+    Ok(agreed)
+}
+
+/// Writes how many comparisons agree.
+fn push_agreed(agreed: usize, into: &mut Vec<u8>) -> Result<(), Stop> {
+    push_number(agreed, into)?;
+    into.extend_from_slice(b" agree")?;
+    Ok(())
+}
+
+/// The seed and the count of a row.
+fn read_drawn(alloc: Global, rest: &str) -> Result<(usize, usize), Stop> {
+    let numbers = read_numbers(alloc, rest)?;
+    match numbers.as_slice() {
+        [seed, count] => Ok((*seed, *count)),
+        _ => Err(Stop::OtherParts),
+    }
 }
 
 /// Answers with how many comparisons agree.
 pub fn answer_drawn(alloc: Global, rest: &str, into: &mut Vec<u8>) -> Result<(), Stop> {
-    let numbers = read_numbers(alloc, rest)?;
-    let [seed, count] = numbers.as_slice() else {
-        return Err(Stop::OtherParts);
-    };
-    let mut draw = Draw::new(*seed as u64);
-    let mut agreed = 0;
-    for _ in 0..*count {
-        compare_drawn(alloc, &mut draw, &mut agreed)?;
-    }
-    push_number(agreed, into)?;
-    into.extend_from_slice(b" agree")?;
-    Ok(())
+    let (seed, count) = read_drawn(alloc, rest)?;
+    push_agreed(agreed_of(alloc, seed as u64, count)?, into)
 }
