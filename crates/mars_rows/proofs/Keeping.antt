@@ -1,5 +1,5 @@
 -- Nodes that walks from pins meet, as rows of their own.
-use Rattle.std.proofs.Common.{◌≡◌, ◌≢◌, ℕ, zero, suc, ◌<◌, ◌≤◌, ◌+◌, Bool, true, false, cond, nat_eq, List, [], ◌∷◌, ◌++◌, length, map, filter, Option, Some, None, option_and_then, slice_get, get_or, refl, sym, subst, ap, ◌∙◌, arith, inl, inr, All, IsSome, Contains}
+use Rattle.std.proofs.Common.{◌≡◌, ◌≢◌, ℕ, zero, suc, ◌<◌, ◌≤◌, ◌+◌, Bool, true, false, cond, nat_eq, List, [], ◌∷◌, ◌++◌, length, map, filter, Option, Some, None, option_and_then, slice_get, get_or, refl, sym, subst, ap, ◌∙◌, arith, inl, inr, All, IsSome, Contains, append-nil}
 use Rattle.std.specs.Option.{option_map}
 use Rattle.std.specs.List.{cons_option, filter_map, list_any, range_with_len}
 use Rattle.std.proofs.lemmas.Bool.{false≢true, cases_eq}
@@ -12,7 +12,9 @@ use Rattle.mars_tree.proofs.CallerLemmas.{kid_in, end_in}
 use Rattle.mars_rows.specs.Rows.{Row}
 use Rattle.mars_rows.specs.RowsInside.{as_row, rows_from, rows_of}
 use Rattle.mars_rows.specs.StockInside.{under}
-use Rattle.mars_rows.proofs.FreshRows.{in_range_of}
+use Rattle.std.proofs.lemmas.List.Elements.{filter-append}
+use Rattle.mars_reach.specs.Order.{with_number}
+use Rattle.mars_rows.proofs.FreshRows.{in_range_of, range_more}
 use Rattle.mars_rows.proofs.Stored.{stored_number}
 use Rattle.mars_rows.proofs.Swept.{Has, any_is, is_any}
 
@@ -129,3 +131,32 @@ kept_rows g place f h p q tests numbers kids =
     ∙ sym (filter-made (under f) (row_of g) (λ row. p row.number) q (range_with_len 0 (length g)) (λ k n row at e.
     ap (λ m. p (f m)) (stored_number n (get_or g n free_leaf) row e) ∙ tests n (omega (arith, in_range_of 0 (length g) k n at))))
     ∙ sym (ap (λ rows. filter (λ row. p row.number) (map (under f) rows)) (rows_of-range g 0 g (λ i lt. (let s : i ≡ 0 + i = omega arith in ap (λ n. get_or g n free_leaf) s))))
+
+module _ (q : ℕ → Bool) (n : ℕ) where
+  kept_more : filter q (range_with_len 0 (n + 1)) ≡ filter q (range_with_len 0 n) ++ filter q (n ∷ [])
+  kept_more =
+      let zero_n : 0 + n ≡ n = omega arith in
+      ap (filter q) (range_more 0 n ∙ ap (λ x. range_with_len 0 n ++ x ∷ []) zero_n) ∙ filter-append q (range_with_len 0 n) (n ∷ [])
+
+  not_met : list_any (nat_eq n) (filter q (range_with_len 0 n)) ≡ false
+  not_met = same_bool (list_any (nat_eq n) (filter q (range_with_len 0 n))) false
+      (λ t.
+        let h = was_kept q (range_with_len 0 n) n (any_is n (filter q (range_with_len 0 n)) t) in
+        let bound = in_range_of 0 n h.0.0 n h.0.1 in
+        absurd (omega (arith, bound.1)))
+      (λ t. absurd (false≢true t))
+
+  -- one more node, which passes or doesn't
+  pub kept_push : q n ≡ true → with_number (filter q (range_with_len 0 n)) n ≡ filter q (range_with_len 0 (n + 1))
+  kept_push t =
+      ap (λ b. cond b (filter q (range_with_len 0 n)) (filter q (range_with_len 0 n) ++ n ∷ [])) not_met
+      ∙ sym (ap (λ b. filter q (range_with_len 0 n) ++ cond b (n ∷ []) []) t) ∙ sym kept_more
+
+  pub kept_skip : q n ≡ false → filter q (range_with_len 0 n) ≡ filter q (range_with_len 0 (n + 1))
+  kept_skip t = sym (append-nil (filter q (range_with_len 0 n))) ∙ sym (ap (λ b. filter q (range_with_len 0 n) ++ cond b (n ∷ []) []) t) ∙ sym kept_more
+
+-- tests that agree on a list keep the same
+pub kept_alike : (q r : ℕ → Bool) (xs : List ℕ) → ((k x : ℕ) → slice_get xs k ≡ Some x → q x ≡ r x) → filter q xs ≡ filter r xs
+kept_alike q r [] alike = refl
+kept_alike q r (x ∷ xs) alike =
+    ap (λ b. cond b (x ∷ filter q xs) (filter q xs)) (alike 0 x refl) ∙ ap (λ ys. cond (r x) (x ∷ ys) ys) (kept_alike q r xs (λ k. alike (suc k)))

@@ -11,6 +11,7 @@ pub mod RowFacts
 pub mod StaysSound
 pub mod Stocked
 pub mod Stored
+pub mod Sweeping
 pub mod SweepsSound
 pub mod Swept
 pub mod TreeFacts

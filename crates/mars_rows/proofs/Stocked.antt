@@ -76,7 +76,10 @@ module _ (g : List Node) (ns : List ℕ) (is : IsStock g ns) where
       (old.0, stored_in g is.graph is.labels old.0 old.1, old.2)
 
   pub stock_contains : (h : ℕ) → HasRow (stock_rows g ns) h → Contains ns h
-  stock_contains h has = let p = stock_place h has in (p.0, omega (arith, p.1, is.size), p.2)
+  stock_contains h has =
+      let p = stock_place h has in
+      let lt : p.0 < length ns = omega (arith, p.1, is.size) in
+      Contains-get ns p.0 h (slice_get-get_or ns p.0 0 lt ∙ ap (λ n. Some n) p.2)
 
   pub contains_stock : (h : ℕ) → Contains ns h → HasRow (stock_rows g ns) h
   contains_stock h c =

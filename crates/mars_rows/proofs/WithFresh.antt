@@ -43,7 +43,7 @@ module _ (g tree : List Node) (numbers fresh : List ℕ) (g_is : IsGraph g) (gro
   pub number_at : (n : ℕ) → n < length tree → at_places numbers n ≡ row_number (rows_of g) (length g) tree n
   number_at n lt = ap (λ xs. at_places xs n) numbers_are ∙ at_map (row_number (rows_of g) (length g) tree) (length tree) n lt
 
-  fresh_count : length fresh ≡ fresh_before (rows_of g) tree (length tree)
+  pub fresh_count : length fresh ≡ fresh_before (rows_of g) tree (length tree)
   fresh_count = ap length fresh_are ∙ length-fresh (rows_of g) (length g) tree (length tree)
 
   number_fits : (n : ℕ) → n < length tree → at_places numbers n < length g + length fresh

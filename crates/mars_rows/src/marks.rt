@@ -38,19 +38,27 @@ fn marks(alloc: Global, order: &Order, count: usize) -> Result<Vec<bool>, NoMemo
     Ok(marks)
 }
 
+/// The nodes that are marked, in order.
+fn marked_nodes(alloc: Global, marks: &[bool]) -> Result<Order, NoMemory>
+    ensures { IfOk result (λ order. order ≡ filter (λ n. slice_index_or marks.now n false) (range_with_len 0 (length marks.now))) }
+{
+    let mut order = Order::new(alloc);
+    for node in 0..marks.len() {
+        if marks[node] {
+            order.meet(node)?;
+        }
+    }
+    Ok(order)
+}
+
 /// The nodes that roots reach, in the order of their places. Linear in the nodes.
 fn kept_nodes(alloc: Global, nodes: &Graph, roots: &[usize]) -> Result<Order, NoMemory>
     requires { All (λ root. root < length nodes.now) roots.now }
     ensures { IfOk result (λ order. AreKept nodes.now roots.now order) }
 {
     let met = reached(alloc, nodes, roots)?;
-    let marks = marks(alloc, &met, nodes.len())?;
-    let mut order = Order::new(alloc);
-    for node in 0..nodes.len() {
-        if marks[node] {
-            order.meet(node)?;
-        }
-    }
+    let marked = marks(alloc, &met, nodes.len())?;
+    let order = marked_nodes(alloc, &marked)?;
     Ok(order)
 }
 
