@@ -4,6 +4,7 @@ pub mod Found
 pub mod FoundNodes
 pub mod FreshRows
 pub mod Grown
+pub mod Holding
 pub mod Interning
 pub mod Keeping
 pub mod Pinned

@@ -50,7 +50,7 @@ end_stored g g_is ground (k ∷ path) i i_in =
     either (Some m) rest = rest m refl
 
 module _ (g : List Node) (ns : List ℕ) (is : IsStock g ns) where
-  stock_one : (a b : ℕ) → HasRow (rows_of g) a → HasRow (rows_of g) b → number_of_node ns a ≡ number_of_node ns b → a ≡ b
+  pub stock_one : (a b : ℕ) → HasRow (rows_of g) a → HasRow (rows_of g) b → number_of_node ns a ≡ number_of_node ns b → a ≡ b
   stock_one a b has_a has_b e =
       let a_in : a < length g = stored_in g is.graph is.labels a has_a in
       let b_in : b < length g = stored_in g is.graph is.labels b has_b in
