@@ -17,7 +17,7 @@ invariant_of-self c =
     record {
       stock = i.stock;
       below = i.below;
-      pinned = subst (All (λ (pin : ℕ × ℕ). Contains p.stock.numbers.items pin.1)) (sym c.remove.ensures.items) (All-remove (λ (pin : ℕ × ℕ). Contains p.stock.numbers.items pin.1) p.pins.items c.pin_place.result i.pinned);
+      pinned = subst (All (λ (pin : ℕ × ℕ). Contains p.stock.numbers.items pin.1)) (sym c.remove.ensures.items) (All-remove (λ (pin : ℕ × ℕ). Contains p.stock.numbers.items pin.1) p.pins.items c.pin_place-place.result i.pinned);
       within = i.within;
       fits = i.fits;
     }
