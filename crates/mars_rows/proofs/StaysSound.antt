@@ -48,7 +48,7 @@ module _ (t : TableObject) (who : ℕ) (g : List Node) (sound : IsSound t) (is :
       let number : row.number ≡ t.next + i = stored_number (t.next + i) (get_or fresh_graph i free_leaf) row e in
       (omega (arith, number), omega (arith, number, lt, fresh_length))))
 
-  grown_length : length (t.rows ++ fresh_rows t.rows t.next g) ≡ length t.rows + fresh_before t.rows g (length g)
+  pub grown_length : length (t.rows ++ fresh_rows t.rows t.next g) ≡ length t.rows + fresh_before t.rows g (length g)
   grown_length = omega (arith, length-append t.rows (fresh_rows t.rows t.next g), ap length fresh_are, length-stored t.next fresh_graph fresh_ground, fresh_length)
 
   pub grown_sound : length t.rows + fresh_before t.rows g (length g) ≤ t.limit → IsSound (grown t who g)
