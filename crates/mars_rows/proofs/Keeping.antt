@@ -141,9 +141,9 @@ module _ (q : ℕ → Bool) (n : ℕ) where
   not_met : list_any (nat_eq n) (filter q (range_with_len 0 n)) ≡ false
   not_met = same_bool (list_any (nat_eq n) (filter q (range_with_len 0 n))) false
       (λ t.
-        let h = was_kept q (range_with_len 0 n) n (any_is n (filter q (range_with_len 0 n)) t) in
-        let bound = in_range_of 0 n h.0.0 n h.0.1 in
-        absurd (omega (arith, bound.1)))
+      let h = was_kept q (range_with_len 0 n) n (any_is n (filter q (range_with_len 0 n)) t) in
+      let bound = in_range_of 0 n h.0.0 n h.0.1 in
+      absurd (omega (arith, bound.1)))
       (λ t. absurd (false≢true t))
 
   -- one more node, which passes or doesn't

@@ -32,9 +32,9 @@ pub rising_one : (ns : List ℕ) → AreRising ns → (i j : ℕ) → i < length
 rising_one ns rising i j i_in j_in e = elim (cases_order i j) [
   | inl same ↦ same
   | inr other ↦ elim other [
-      | inl lt ↦ let a = rising i j lt j_in in absurd (omega (arith, a, e))
-      | inr lt ↦ let a = rising j i lt i_in in absurd (omega (arith, a, e))
-    ]
+    | inl lt ↦ let a = rising i j lt j_in in absurd (omega (arith, a, e))
+    | inr lt ↦ let a = rising j i lt i_in in absurd (omega (arith, a, e))
+  ]
 ]
 
 -- a walk over the rows of places is one over nodes
@@ -134,7 +134,7 @@ module _ (g : List Node) (ns : List ℕ) (is : IsStock g ns) where
           let kids : All (HasRow (rows_of g)) row.kids = All-get (λ (r : Row). All (HasRow (rows_of g)) r.kids) (rows_of g) i row closed_rows.kids e in
           ap (λ n. record { number = n; label = row.label; kids = map (number_of_node more) row.kids }) (old_number row.number (stored_in g is.graph is.labels row.number (own_row (rows_of g) i row e)))
           ∙ ap (λ ks. record { number = number_of_node ns row.number; label = row.label; kids = ks })
-              (map-same (number_of_node more) (number_of_node ns) row.kids (λ k kid there. old_number kid (stored_in g is.graph is.labels kid (All-get (HasRow (rows_of g)) row.kids k kid kids there))))
+          (map-same (number_of_node more) (number_of_node ns) row.kids (λ k kid there. old_number kid (stored_in g is.graph is.labels kid (All-get (HasRow (rows_of g)) row.kids k kid kids there))))
 
       pub stock_grown : stock_rows grown (ns ++ range_with_len next (fresh_before (rows_of g) tree (length tree))) ≡ stock_rows g ns ++ fresh_rows (stock_rows g ns) next tree
       unfolding more

@@ -81,9 +81,9 @@ module _ (g : List Node) (ns : List ℕ) (is : IsStock g ns) (pins : List (ℕ �
   order_distinct i j n left right = elim (cases_order i j) [
     | inl same ↦ same
     | inr other ↦ elim other [
-        | inl lt ↦ let a : n < n = order_rises i j n n lt left right in absurd (omega (arith, a))
-        | inr lt ↦ let a : n < n = order_rises j i n n lt right left in absurd (omega (arith, a))
-      ]
+      | inl lt ↦ let a : n < n = order_rises i j n n lt left right in absurd (omega (arith, a))
+      | inr lt ↦ let a : n < n = order_rises j i n n lt right left in absurd (omega (arith, a))
+    ]
   ]
 
   -- the pin of a root, and the root of a pin
@@ -115,27 +115,27 @@ module _ (g : List Node) (ns : List ℕ) (is : IsStock g ns) (pins : List (ℕ �
       let means = (sweep_means table (closed_stock g ns is) pins_have).0 h in
       same_bool (is_met table h) (list_any (nat_eq k) kept.met)
       (λ e.
-        let stays : HasRow (sweep table).rows h = subst (λ (o : Option Row). IsSome o) (sym (row_at-filter (is_met table) (stock_rows g ns) h ∙ ap (λ b. cond b (row_at (stock_rows g ns) h) None) e)) has in
-        let m = means.0 stays in
-        let p = get-Contains pins m.pin m.pinned in
-        let r = root_of p.0 m.pin p.2 in
-        let r_in : r.0 < length g = root_in p.0 r.0 r.1 in
-        let ends = option_map_some (number_of_node ns) (end_of g r.0 m.path) h (sym (end_stock g ns is m.path r.0 r_in) ∙ ap (λ n. row_end (stock_rows g ns) n m.path) r.2 ∙ m.meets) in
-        let end_is : ends.0 < length g = end_in g r.0 m.path ends.0 is.graph r_in ends.1 in
-        let same : ends.0 ≡ k = rising_one ns is.rising ends.0 k (omega (arith, end_is, is.size)) (omega (arith, k_in, is.size)) ends.2 in
-        met_in k (subst (Contains kept.met) same (walks_in g kept.met kept.closed m.path r.0 ends.0 (All-get (Contains kept.met) roots p.0 r.0 kept.roots_in r.1) ends.1)))
+      let stays : HasRow (sweep table).rows h = subst (λ (o : Option Row). IsSome o) (sym (row_at-filter (is_met table) (stock_rows g ns) h ∙ ap (λ b. cond b (row_at (stock_rows g ns) h) None) e)) has in
+      let m = means.0 stays in
+      let p = get-Contains pins m.pin m.pinned in
+      let r = root_of p.0 m.pin p.2 in
+      let r_in : r.0 < length g = root_in p.0 r.0 r.1 in
+      let ends = option_map_some (number_of_node ns) (end_of g r.0 m.path) h (sym (end_stock g ns is m.path r.0 r_in) ∙ ap (λ n. row_end (stock_rows g ns) n m.path) r.2 ∙ m.meets) in
+      let end_is : ends.0 < length g = end_in g r.0 m.path ends.0 is.graph r_in ends.1 in
+      let same : ends.0 ≡ k = rising_one ns is.rising ends.0 k (omega (arith, end_is, is.size)) (omega (arith, k_in, is.size)) ends.2 in
+      met_in k (subst (Contains kept.met) same (walks_in g kept.met kept.closed m.path r.0 ends.0 (All-get (Contains kept.met) roots p.0 r.0 kept.roots_in r.1) ends.1)))
       (λ t.
-        let p = get-Contains kept.met k (in_met k t) in
-        let reached : IsReached g roots k = All-get (IsReached g roots) kept.met p.0 k kept.reach.reached p.2 in
-        option_and_then_some (λ root. end_of g root reached.0.1) (slice_get roots reached.0.0) k reached.1 (λ r r_at ends.
-        let pin = pin_of reached.0.0 r r_at in
-        let met : IsMet table h = record {
-          pin = pin.0;
-          pinned = Contains-get pins reached.0.0 pin.0 pin.1;
-          path = reached.0.1;
-          meets = ap (λ n. row_end (stock_rows g ns) n reached.0.1) pin.2 ∙ end_stock g ns is reached.0.1 r (root_in reached.0.0 r r_at) ∙ ap (option_map (number_of_node ns)) ends;
-        } in
-        passes (is_met table) (stock_rows g ns) h (means.1 met)))
+      let p = get-Contains kept.met k (in_met k t) in
+      let reached : IsReached g roots k = All-get (IsReached g roots) kept.met p.0 k kept.reach.reached p.2 in
+      option_and_then_some (λ root. end_of g root reached.0.1) (slice_get roots reached.0.0) k reached.1 (λ r r_at ends.
+      let pin = pin_of reached.0.0 r r_at in
+      let met : IsMet table h = record {
+        pin = pin.0;
+        pinned = Contains-get pins reached.0.0 pin.0 pin.1;
+        path = reached.0.1;
+        meets = ap (λ n. row_end (stock_rows g ns) n reached.0.1) pin.2 ∙ end_stock g ns is reached.0.1 r (root_in reached.0.0 r r_at) ∙ ap (option_map (number_of_node ns)) ends;
+      } in
+      passes (is_met table) (stock_rows g ns) h (means.1 met)))
 
   number_kept : (i n : ℕ) → slice_get order i ≡ Some n → number_of_node (map (number_of_node ns) order) i ≡ number_of_node ns n
   number_kept i n e = get_or_from_slice_get (map (number_of_node ns) order) i (number_of_node ns n) 0 (slice_get-map (number_of_node ns) order i ∙ ap (option_map (number_of_node ns)) e)

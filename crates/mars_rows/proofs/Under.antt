@@ -149,13 +149,13 @@ module _ (rows : List Row) (f : ℕ → ℕ) (closed : AreClosed rows) (one : (a
                 let m = (before found.0).0 found.1 in
                 (after (f found.0)).1 (has_under found.0 m.0, λ path. tree_under found.0 m.0 path ∙ m.1 path) ∙ sym (ap (option_map f) found.1)
             | inl none ↦ elim (none_or_some (find_row (map (under f) rows) g n)) [
-                | inl e ↦ e ∙ sym (ap (option_map f) none)
-                | inr found ↦
-                    let m = (after found.0).0 found.1 in
-                    let old = old_of found.0 m.0 in
-                    let e : find_row rows g n ≡ Some old.0 = (before old.0).1 (old.1, λ path. sym (tree_under old.0 old.1 path) ∙ ap (λ i. tree_of (map (under f) rows) i path) old.2 ∙ m.1 path) in
-                    absurd (let no : None ≡ Some old.0 = sym none ∙ e in cc)
-              ]
+              | inl e ↦ e ∙ sym (ap (option_map f) none)
+              | inr found ↦
+                  let m = (after found.0).0 found.1 in
+                  let old = old_of found.0 m.0 in
+                  let e : find_row rows g n ≡ Some old.0 = (before old.0).1 (old.1, λ path. sym (tree_under old.0 old.1 path) ∙ ap (λ i. tree_of (map (under f) rows) i path) old.2 ∙ m.1 path) in
+                  absurd (let no : None ≡ Some old.0 = sym none ∙ e in cc)
+            ]
           ]
 
       -- as many nodes are fresh

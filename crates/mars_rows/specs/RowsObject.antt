@@ -1,7 +1,8 @@
 -- Rows with pins: the table object, the room for pins, and what adding a tree answers.
-use Rattle.std.specs.Prelude.{◌≡◌, ℕ, ◌+◌, Bool, not, nat_eq, nat_lt, ◌&&◌, if◌then◌else◌, List, [], ◌∷◌, ◌++◌, length}
+use Rattle.std.specs.Prelude.{◌≡◌, ⊤, ℕ, ◌+◌, Bool, not, nat_eq, nat_lt, ◌&&◌, if◌then◌else◌, List, [], ◌∷◌, ◌++◌, length}
 use Rattle.mars_tree.specs.Graph.{Node}
-use Rattle.mars_rows.specs.Object.{TableObject, empty_table, fresh_before, fresh_rows, row_number, sweep}
+use Rattle.mars_rows.specs.Rows.{HasRow}
+use Rattle.mars_rows.specs.Object.{TableObject, fresh_before, fresh_rows, row_number, sweep}
 use Rattle.mars_rows.specs.declared.store.Added.{Added}
 use Rattle.mars_rows.specs.declared.store.Added.TheVariants.{Root, Full}
 
@@ -39,6 +40,11 @@ add t g = add_to (table_for t g) g
 abbrev pub IsAdded : Added → TableObject → List Node → TableObject → Type 0
 IsAdded (Root h) t g new = add t g ≡ root h new
 IsAdded (Full r f) t g new = (add t g ≡ too_many r f) × (new ≡ t)
+
+-- the root that an answer gives has a row
+abbrev pub HasRoot : Added → TableObject → Type 0
+HasRoot (Root h) t = HasRow t.rows h
+HasRoot (Full r f) t = ⊤
 
 -- the table with one more pin
 abbrev pub with_pin : TableObject → ℕ → ℕ → TableObject

@@ -42,4 +42,3 @@ pub(crate) fn number_nodes(alloc: Global, rows: &Graph, tree: &Graph) -> Result<
     }
     Ok(Numbered { numbers, fresh })
 }
-

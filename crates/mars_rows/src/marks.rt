@@ -76,11 +76,7 @@ fn numbers_of(alloc: Global, numbers: &[u128], order: &Order) -> Result<Vec<u128
 
 /// The rows that a walk from a pin meets, as a stock of their own. Linear in the rows, their kids and the pins, but for
 /// the search for the pins' places, a logarithm each.
-pub(crate) fn swept(
-    alloc: Global,
-    stock: &Stock,
-    pins: &[(u32, u128)],
-) -> Result<Stock, NoMemory>
+pub(crate) fn swept(alloc: Global, stock: &Stock, pins: &[(u32, u128)]) -> Result<Stock, NoMemory>
     requires stock { IsStock stock.now.nodes stock.now.numbers.items }
     requires pinned { All (λ pin. Contains stock.now.numbers.items pin.1) pins.now }
     ensures rows { IfOk result (λ left. stock_rows left.nodes left.numbers.items ≡ filter (λ row. is_met (record { rows = stock_rows stock.now.nodes stock.now.numbers.items; pins = pins.now; next = 0; limit = 0 }) row.number) (stock_rows stock.now.nodes stock.now.numbers.items)) }

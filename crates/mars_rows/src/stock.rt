@@ -63,11 +63,14 @@ pub(crate) fn append(
     ensures kept { OnOk result (All (Contains stock.new.numbers.items) stock.old.numbers.items) }
     ensures count { OnOk result (length stock.new.nodes ≡ length stock.old.nodes + fresh_before (stock_rows stock.old.nodes stock.old.numbers.items) tree.now (length tree.now)) }
     ensures root { IfOk result (λ number. number ≡ row_number (stock_rows stock.old.nodes stock.old.numbers.items) next tree.now 0) }
+    ensures root_in { IfOk result (λ number. Contains stock.new.numbers.items number) }
     ensures nodes_before { OnErr result (stock.new.nodes ≡ stock.old.nodes) }
     ensures numbers_before { OnErr result (stock.new.numbers.items ≡ stock.old.numbers.items) }
 {
     stock.numbers.reserve(numbered.fresh.len())?;
-    stock.nodes.append_renumbered(tree, &numbered.fresh, &numbered.numbers)?;
+    stock
+        .nodes
+        .append_renumbered(tree, &numbered.fresh, &numbered.numbers)?;
     push_next(&mut stock.numbers, next, numbered.fresh.len());
     Ok(stock.numbers[numbered.numbers[0]])
 }

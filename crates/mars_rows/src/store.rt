@@ -5,7 +5,7 @@ ghost use Rattle.std.specs.List.{remove};
 ghost use Rattle.mars_rows.specs.Finding.{find_row};
 ghost use Rattle.mars_rows.specs.Rows.{HasRow};
 ghost use Rattle.mars_rows.specs.Object.{empty_table, sweep, swept as swept_count};
-ghost use Rattle.mars_rows.specs.RowsObject.{IsAdded, fits, with_pin, without_pin, without_first};
+ghost use Rattle.mars_rows.specs.RowsObject.{IsAdded, HasRoot, fits, with_pin, without_pin, without_first};
 ghost use Rattle.mars_rows.specs.Sound.{IsSound};
 
 use crate::growth::number_nodes;
@@ -75,6 +75,13 @@ impl Rows {
         (self.stock.nodes.len() as u64, self.pins.len() as u64)
     }
 
+    /// The number that the next row gets. Takes no memory.
+    pub fn next_number(&self) -> u128
+        ensures { result ≡ self.now.table.next }
+    {
+        self.next
+    }
+
     /// Puts a pin of `who` on a row. With room for a pin it takes no memory.
     pub fn pin(&mut self, who: u32, id: u128) -> Result<(), NoMemory>
         requires { HasRow self.old.table.rows id }
@@ -92,6 +99,7 @@ impl Rows {
     pub fn add(&mut self, tree: &Tree) -> Result<Added, NoMemory>
         requires { self.old.table.next < 2 ^ 127 }
         ensures added { IfOk result (λ added. IsAdded added self.old.table tree.now self.new.table) }
+        ensures root { IfOk result (λ added. HasRoot added self.new.table) }
         ensures room { OnOk result (0 < self.new.room) }
         ensures err { OnErr result (self.new.table ≡ self.old.table) }
     {
@@ -105,6 +113,7 @@ impl Rows {
         requires next { self.old.table.next < 2 ^ 127 }
         requires tree { IsTree tree.now }
         ensures added { IfOk result (λ added. IsAdded added self.old.table tree.now self.new.table) }
+        ensures root { IfOk result (λ added. HasRoot added self.new.table) }
         ensures room { OnOk result (0 < self.new.room) }
         ensures err { OnErr result (self.new.table ≡ self.old.table) }
     {
@@ -125,6 +134,7 @@ impl Rows {
         requires full { fits self.old.table tree.now ≡ false }
         requires room { 0 < self.old.room }
         ensures added { IfOk result (λ added. IsAdded added self.old.table tree.now self.new.table) }
+        ensures root { IfOk result (λ added. HasRoot added self.new.table) }
         ensures room { OnOk result (0 < self.new.room) }
         ensures err { OnErr result (self.new.table ≡ self.old.table) }
     {

@@ -46,4 +46,3 @@ loop-place-preserved c =
             ∙ sym (ap (λ b. list_any (nat_eq n) (take place order) || b) (ne_eqb n x other)) ∙ sym (after n) ∙ sym (ap (list_any (nat_eq n)) more)
       ];
     }
-

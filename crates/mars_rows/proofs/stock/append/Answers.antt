@@ -1,6 +1,7 @@
 use Rattle.std.proofs.Common.{◌≡◌, ℕ, ◌<◌, ◌≤◌, ◌+◌, List, length, vec_len, map, All, Contains, sym, ap, subst, ◌∙◌, ◌++◌, arith, rules, slice_get, Some}
 use Rattle.std.specs.List.{range_with_len}
 use Rattle.std.proofs.lemmas.List.{get_or_read}
+use Rattle.std.proofs.lemmas.Option.{slice_get-get_or}
 use Rattle.mars_base.proofs.ListFacts.{All-from_gets, Contains-get, get-append}
 use Rattle.mars_tree.specs.Renumbered.{renumbered, HaveKids, KidsFit}
 use Rattle.mars_rows.specs.FreshInside.{at_places}
@@ -203,3 +204,26 @@ returns-clause-root c =
     let within : c.index.result.now < length c.push_next.new.numbers.items = omega (arith, ap length numbers, (is_grown g ns s tree q.tree c.args.next q.below grown has).size, lt, place) in
     get_or_read c.push_next.new.numbers.items _ _ within c.index-2.ensures 0 ∙ ap (λ xs. number_of_node xs c.index.result.now) numbers
     ∙ ap (number_of_node (ns ++ range_with_len c.args.next (fresh_before (rows_of g) tree (length tree)))) place ∙ number_grown g ns s tree q.tree c.args.next q.below grown has 0 some
+
+pub returns-clause-root_in : goal.returns-clause-root_in
+returns-clause-root_in c =
+    let g = c.args.stock.now.nodes in
+    let ns = c.args.stock.now.numbers.items in
+    let tree = c.args.tree.now in
+    let n = c.args.numbered.now in
+    let q = c.requires in
+    let s = q.stock in
+    let is : c.deref.result.now ≡ n.fresh.items = c.deref.ensures.value in
+    let grown = c.append_renumbered.new.self in
+    let has : HasGrown g tree grown = has_grown g tree n.numbers.items n.fresh.items s.graph s.labels s.apart q.tree q.numbers q.fresh grown (c.in_ok-append_renumbered.ensures.ok ∙ ap (λ xs. g ++ renumbered tree (at_places n.numbers.items) xs) is) in
+    let size : c.len-2.result ≡ length n.fresh.items = search rules in
+    let count : c.len-2.result ≡ fresh_before (rows_of g) tree (length tree) = size ∙ fresh_count g tree n.numbers.items n.fresh.items s.graph s.labels s.apart q.tree q.numbers q.fresh in
+    let numbers : c.push_next.new.numbers.items ≡ ns ++ range_with_len c.args.next (fresh_before (rows_of g) tree (length tree)) =
+    c.push_next.ensures ∙ ap (λ xs. xs ++ range_with_len c.args.next c.len-2.result) c.in_ok-reserve.ensures.items ∙ ap (λ k. ns ++ range_with_len c.args.next k) count in
+    let some : 0 < length tree = tree_some tree q.tree in
+    let first : 0 < length n.numbers.items = omega (arith, numbers_size g tree n.numbers.items n.fresh.items s.graph s.labels s.apart q.tree q.numbers q.fresh, some) in
+    let place : c.index.result.now ≡ row_number (rows_of g) (length g) tree 0 = get_or_read n.numbers.items _ _ first c.index.ensures 0 ∙ root_number g tree n.numbers.items n.fresh.items s.graph s.labels s.apart q.tree q.numbers q.fresh in
+    let lt : row_number (rows_of g) (length g) tree 0 < length grown = number_in g tree grown s.graph s.labels s.apart q.tree has.graph has.labels has.rows 0 some in
+    let within : c.index.result.now < length c.push_next.new.numbers.items = omega (arith, ap length numbers, (is_grown g ns s tree q.tree c.args.next q.below grown has).size, lt, place) in
+    Contains-get c.push_next.new.numbers.items c.index.result.now c.index-2.result.now
+    (slice_get-get_or c.push_next.new.numbers.items c.index.result.now 0 within ∙ ap (λ k. Some k) (sym (get_or_read c.push_next.new.numbers.items _ _ within c.index-2.ensures 0)))

@@ -12,9 +12,9 @@ level : (ns : List ℕ) → AreRising ns → (i j : ℕ) → i ≤ j → j < len
 level ns rising i j le j_in = elim (cases_order i j) [
   | inl same ↦ subst (λ (k : ℕ). get_or ns i 0 ≤ get_or ns k 0) same (omega arith)
   | inr other ↦ elim other [
-      | inl lt ↦ let a : get_or ns i 0 < get_or ns j 0 = rising i j lt j_in in omega (arith, a)
-      | inr lt ↦ absurd (omega (arith, lt, le))
-    ]
+    | inl lt ↦ let a : get_or ns i 0 < get_or ns j 0 = rising i j lt j_in in omega (arith, a)
+    | inr lt ↦ absurd (omega (arith, lt, le))
+  ]
 ]
 
 pub unreachable-requires : goal.unreachable-requires

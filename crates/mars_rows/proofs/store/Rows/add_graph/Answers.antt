@@ -7,7 +7,7 @@ use Rattle.mars_rows.specs.StockInside.{stock_rows, IsStock}
 use Rattle.mars_rows.specs.StoreInside.{table_in}
 use Rattle.mars_rows.specs.TreeGraph.{IsTreeGraph}
 use Rattle.mars_rows.proofs.Holding.{not_more, add_here, add_swept, add_full, among_below, pins_kept, counted_fresh, counted_all}
-use Rattle.mars_rows.proofs.Stocked.{length-stock}
+use Rattle.mars_rows.proofs.Stocked.{length-stock, contains_stock}
 use Rattle.mars_rows.proofs.store.Rows.add_graph.Goals as goal
 
 pub invariant_of-self : goal.invariant_of-self
@@ -104,6 +104,16 @@ returns-then-is_within-clause-added c =
     ∙ ap (λ rs. as_root c.in_ok-root.root rs p.pins.items (p.next + fresh_before (stock_rows g ns) tree (length tree))) (sym e.rows)
     ∙ ap (λ ps. as_root c.in_ok-root.root (stock_rows new.nodes new.numbers.items) ps (p.next + fresh_before (stock_rows g ns) tree (length tree))) (sym c.in_ok-reserve.ensures.items)
     ∙ ap (λ n. as_root c.in_ok-root.root (stock_rows new.nodes new.numbers.items) c.reserve.new.self.items (p.next + n)) (sym more)
+
+pub returns-then-is_within-clause-root : goal.returns-then-is_within-clause-root
+returns-then-is_within-clause-root c =
+    let p = c.self.inside in
+    let i = c.self.invariant in
+    let g = p.stock.nodes in
+    let ns = p.stock.numbers.items in
+    let e = c.in_ok-root.ensures in
+    let new = c.append.new.stock in
+    contains_stock new.nodes new.numbers.items e.stock c.in_ok-root.root e.root_in
 
 pub invariant_of-self-else-is_within : goal.invariant_of-self-else-is_within
 invariant_of-self-else-is_within c =

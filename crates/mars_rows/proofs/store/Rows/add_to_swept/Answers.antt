@@ -7,7 +7,7 @@ use Rattle.mars_rows.specs.StockInside.{stock_rows, IsStock}
 use Rattle.mars_rows.specs.StoreInside.{table_in}
 use Rattle.mars_rows.specs.TreeGraph.{IsTreeGraph}
 use Rattle.mars_rows.proofs.Holding.{not_more, add_here, add_swept, add_full, among_below, pins_kept, counted_fresh, counted_all}
-use Rattle.mars_rows.proofs.Stocked.{length-stock}
+use Rattle.mars_rows.proofs.Stocked.{length-stock, contains_stock}
 use Rattle.mars_rows.proofs.store.Rows.add_to_swept.Goals as goal
 
 pub append-requires-clause-below : goal.append-requires-clause-below
@@ -43,10 +43,12 @@ returns-then-not-is_within-clause-added c =
     let all : c.len.result + c.len-2.result ≡ length rest + fresh_before rest tree (length tree) = omega (arith, c.len.ensures.len, count, fresh_is, size) in
     let fit : c.is_within.result ≡ fits (sweep (table_in p)) tree = c.is_within.ensures ∙ ap (λ n. not (nat_lt p.cap n)) all in
     let full : fits (table_in p) tree ≡ false = ap (λ (o : RowsObject). fits o.table tree) c.self.view_is ∙ c.requires.full in
-    let again : c.len-then-not-is_within-2.result ≡ length fresh = search rules in
-    (ap (λ (o : RowsObject). add o.table tree) (sym c.self.view_is) ∙ add_full (table_in p) tree full (sym fit ∙ c.if-not-is_within.true)
-    ∙ ap (λ n. too_many n (fresh_before rest tree (length tree))) (sym (c.len-then-not-is_within.ensures.len ∙ size))
-    ∙ ap (λ n. too_many c.len-then-not-is_within.result n) (sym (again ∙ fresh_is)), refl)
+    let again : c.len-then-not-is_within-2.result ≡ length fresh = search rules in (
+      ap (λ (o : RowsObject). add o.table tree) (sym c.self.view_is) ∙ add_full (table_in p) tree full (sym fit ∙ c.if-not-is_within.true)
+          ∙ ap (λ n. too_many n (fresh_before rest tree (length tree))) (sym (c.len-then-not-is_within.ensures.len ∙ size))
+          ∙ ap (λ n. too_many c.len-then-not-is_within.result n) (sym (again ∙ fresh_is)),
+      refl,
+    )
 
 pub invariant_of-self : goal.invariant_of-self
 invariant_of-self c =
@@ -116,3 +118,13 @@ returns-clause-added c =
     ∙ ap (λ k. as_root k (stock_rows h ms ++ fresh_rows (stock_rows h ms) p.next tree) p.pins.items (p.next + fresh_before (stock_rows h ms) tree (length tree))) (sym e.root)
     ∙ ap (λ rs. as_root c.in_ok-root.root rs p.pins.items (p.next + fresh_before (stock_rows h ms) tree (length tree))) (sym e.rows)
     ∙ ap (λ n. as_root c.in_ok-root.root (stock_rows new.nodes new.numbers.items) p.pins.items (p.next + n)) (sym more)
+
+pub returns-clause-root : goal.returns-clause-root
+returns-clause-root c =
+    let p = c.self.inside in
+    let i = c.self.invariant in
+    let g = p.stock.nodes in
+    let ns = p.stock.numbers.items in
+    let e = c.in_ok-root.ensures in
+    let new = c.append.new.stock in
+    contains_stock new.nodes new.numbers.items e.stock c.in_ok-root.root e.root_in

@@ -7,7 +7,7 @@ use Rattle.mars_rows.specs.StockInside.{stock_rows, IsStock}
 use Rattle.mars_rows.specs.StoreInside.{table_in}
 use Rattle.mars_rows.specs.TreeGraph.{IsTreeGraph}
 use Rattle.mars_rows.proofs.Holding.{not_more, add_here, add_swept, add_full, among_below, pins_kept, counted_fresh, counted_all}
-use Rattle.mars_rows.proofs.Stocked.{length-stock}
+use Rattle.mars_rows.proofs.Stocked.{length-stock, contains_stock}
 use Rattle.mars_rows.specs.Object.{swept as swept_count}
 use Rattle.mars_rows.proofs.store.Rows.sweep.Goals as goal
 
