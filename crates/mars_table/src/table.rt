@@ -1,13 +1,11 @@
-// The table: one graph whose nodes are the rows, in the order of their numbers, and the pins.
+// The table: rows of trees, and the pins of callers on them.
 ghost use Rattle.std.specs.Prelude.{◌≡◌, ◌+◌, ◌≤◌, length, IfOk, OnOk, OnErr};
-ghost use Rattle.mars_table.specs.Object.{empty_table, intern, Interned};
-ghost use Rattle.mars_table.specs.Sound.{IsSound};
-ghost use Rattle.mars_table.specs.TreeGraph.{IsTreeGraph};
+ghost use Rattle.mars_rows.specs.Object.{empty_table, intern, Interned};
+ghost use Rattle.mars_rows.specs.Sound.{IsSound};
 
-use crate::rows::grow;
 use mars_base::NoMemory;
 use mars_canon::Tree;
-use mars_tree::Graph;
+use mars_rows::{Added, Rows};
 use std::alloc::Global;
 use std::marker::Model;
 
@@ -18,14 +16,11 @@ pub struct Handle(pub u128);
 /// Trees under numbers, each tree once, and the pins of callers on them.
 #[derive(Drop)]
 pub struct Table {
-    rows: Graph,
-    pins: Vec<(u32, u128)>,
-    cap: u64,
-    alloc: Global,
+    rows: Rows,
 }
 
 impl Model for Table {
-    ghost use Rattle.mars_table.specs.Object.{TableObject};
+    ghost use Rattle.mars_rows.specs.Object.{TableObject};
 
     ghost Value = { TableObject };
 
@@ -42,10 +37,7 @@ impl Table {
         ensures { result ≡ empty_table cap }
     {
         Table {
-            rows: Graph::new(alloc),
-            pins: Vec::new(alloc),
-            cap,
-            alloc,
+            rows: Rows::new(alloc, cap),
         }
     }
 
@@ -59,23 +51,15 @@ impl Table {
         ensures as_before { OnErr result (self.new ≡ self.old) }
     {
         let _count = tree.len();
-        let canon = tree.canon()?;
-        self.keep(who, canon.graph())
-    }
-
-    /// Keeps a tree that is given by its canonical graph.
-    fn keep(&mut self, who: u32, tree: &Graph) -> Result<Handle, NoMemory>
-        requires tree { IsTreeGraph tree.now }
-        requires room { length self.old.rows + length tree.now ≤ self.old.limit }
-        ensures kept { IfOk result (λ handle. intern self.old who tree.now ≡ Interned.kept handle.0 self.new) }
-        ensures limit { OnOk result (self.new.limit ≡ self.old.limit) }
-        ensures small { OnOk result (length self.new.rows ≤ length self.old.rows + length tree.now) }
-        ensures as_before { OnErr result (self.new ≡ self.old) }
-    {
-        self.pins.reserve(1)?;
-        let row = grow(self.alloc, &mut self.rows, tree)?;
-        self.pins.push_reserved((who, row as u128));
-        Ok(Handle(row as u128))
+        let _rows = self.rows.counts();
+        match self.rows.add(tree)? {
+            Added::Root(root) => {
+                // there is room for the pin, so that this can't fail
+                self.rows.pin(who, root)?;
+                Ok(Handle(root))
+            }
+            Added::Full { .. } => unreachable!(),
+        }
     }
 
     /// How many rows and how many pins there are.
@@ -84,6 +68,6 @@ impl Table {
         ensures pins { result.1 ≡ length self.now.pins }
         ensures sound { IsSound self.now }
     {
-        (self.rows.len() as u64, self.pins.len() as u64)
+        self.rows.counts()
     }
 }

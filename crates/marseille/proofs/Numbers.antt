@@ -2,9 +2,9 @@
 use Rattle.std.proofs.Common.{List}
 use Rattle.std.specs.List.{AllZip}
 use Rattle.mars_base.proofs.ListFacts.{AllZip-get}
-use Rattle.mars_table.specs.Object.{TableObject}
-use Rattle.mars_table.specs.Sound.{IsSound}
-use Rattle.mars_table.proofs.CallerLemmas.{numbers_agree}
+use Rattle.mars_rows.specs.Object.{TableObject}
+use Rattle.mars_rows.specs.Sound.{IsSound}
+use Rattle.mars_rows.proofs.CallerLemmas.{numbers_agree}
 use Rattle.mars_read.specs.declared.first.FirstPut.{FirstPut}
 use Rattle.marseille.specs.declared.run.PutAnswer.{PutAnswer}
 use Rattle.marseille.specs.declared.run.PutAnswer.TheVariants.{Kept}

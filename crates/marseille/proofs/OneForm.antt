@@ -12,8 +12,8 @@ use Rattle.mars_reach.specs.Reach.{ReachesFree, ReachesNoFree}
 use Rattle.mars_canon.specs.Canon.{Rooted, IsCanon}
 use Rattle.mars_canon.specs.Tree.{FitsTree, most_nodes}
 use Rattle.mars_canon.proofs.Forms.{one_root}
-use Rattle.mars_table.specs.TreeGraph.{IsTreeGraphOf}
-use Rattle.mars_table.proofs.CallerLemmas.{node_is_reached}
+use Rattle.mars_rows.specs.TreeGraph.{IsTreeGraphOf}
+use Rattle.mars_rows.proofs.CallerLemmas.{node_is_reached}
 use Rattle.marseille.specs.Run.{IsTooLarge}
 
 -- a node that is a free leaf, where not every node has a label

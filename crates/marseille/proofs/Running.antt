@@ -4,11 +4,11 @@ use Rattle.std.specs.List.{AllZip}
 use Rattle.mars_tree.specs.declared.label.NameId.{NameId}
 use Rattle.mars_read.specs.declared.first.FirstPut.{FirstPut}
 use Rattle.mars_read.specs.First.{nodes_in}
-use Rattle.mars_table.specs.Object.{TableObject, empty_table, sweep, swept}
-use Rattle.mars_table.specs.Sound.{IsSound}
-use Rattle.mars_table.specs.Met.{AreAllMet}
-use Rattle.mars_table.specs.Lasting.{KeepsTrees}
-use Rattle.mars_table.proofs.CallerLemmas.{interns_to_lasts, intern_keeps_met, sweep_keeps_met, limit_kept}
+use Rattle.mars_rows.specs.Object.{TableObject, empty_table, sweep, swept}
+use Rattle.mars_rows.specs.Sound.{IsSound}
+use Rattle.mars_rows.specs.Met.{AreAllMet}
+use Rattle.mars_rows.specs.Lasting.{KeepsTrees}
+use Rattle.mars_rows.proofs.CallerLemmas.{interns_to_lasts, intern_keeps_met, sweep_keeps_met, limit_kept}
 use Rattle.marseille.specs.declared.run.PutAnswer.{PutAnswer}
 use Rattle.marseille.specs.declared.run.PutAnswer.TheVariants.{NameTaken, NotGround, TooLarge, Kept}
 use Rattle.marseille.specs.declared.run.TheConstants.{ROW_LIMIT}

@@ -6,9 +6,9 @@ use Rattle.mars_read.specs.declared.first.First.{First}
 use Rattle.mars_read.specs.declared.first.FirstPut.{FirstPut}
 use Rattle.mars_reach.specs.Reach.{ReachesFree, ReachesNoFree}
 use Rattle.mars_canon.specs.Tree.{most_nodes}
-use Rattle.mars_table.specs.Object.{TableObject, empty_table, intern}
-use Rattle.mars_table.specs.Object.Interned.{kept}
-use Rattle.mars_table.specs.TreeGraph.{IsTreeGraphOf}
+use Rattle.mars_rows.specs.Object.{TableObject, empty_table, intern}
+use Rattle.mars_rows.specs.Object.Interned.{kept}
+use Rattle.mars_rows.specs.TreeGraph.{IsTreeGraphOf}
 use Rattle.marseille.specs.declared.run.PutAnswer.{PutAnswer}
 use Rattle.marseille.specs.declared.run.PutAnswer.TheVariants.{NameTaken, NotGround, TooLarge, Kept}
 use Rattle.marseille.specs.declared.run.TheConstants.{ROW_LIMIT}

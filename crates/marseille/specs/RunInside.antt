@@ -7,11 +7,11 @@ use Rattle.mars_read.specs.First.{nodes_in}
 use Rattle.mars_tree.specs.Graph.{Node}
 use Rattle.mars_reach.specs.Reach.{ReachesFree, ReachesNoFree}
 use Rattle.mars_canon.specs.Tree.{most_nodes}
-use Rattle.mars_table.specs.Object.{TableObject, empty_table}
-use Rattle.mars_table.specs.Rows.{HasRow, IsRowOf}
-use Rattle.mars_table.specs.Sound.{IsSound}
-use Rattle.mars_table.specs.Met.{AreAllMet}
-use Rattle.mars_table.specs.TreeGraph.{IsTreeGraphOf}
+use Rattle.mars_rows.specs.Object.{TableObject, empty_table}
+use Rattle.mars_rows.specs.Rows.{HasRow, IsRowOf}
+use Rattle.mars_rows.specs.Sound.{IsSound}
+use Rattle.mars_rows.specs.Met.{AreAllMet}
+use Rattle.mars_rows.specs.TreeGraph.{IsTreeGraphOf}
 use Rattle.marseille.specs.declared.run.Form.{Form}
 use Rattle.marseille.specs.declared.run.Form.TheVariants.{Free, Large, Small}
 use Rattle.marseille.specs.declared.run.PutAnswer.{PutAnswer}

@@ -4,7 +4,7 @@ use Rattle.mars_tree.specs.declared.label.NameId.{NameId}
 use Rattle.mars_tree.specs.Names.{spelling}
 use Rattle.mars_read.specs.declared.first.First.{First}
 use Rattle.mars_read.specs.declared.first.FirstPut.{FirstPut}
-use Rattle.mars_table.specs.Object.{TableObject, sweep, swept, counts_of}
+use Rattle.mars_rows.specs.Object.{TableObject, sweep, swept, counts_of}
 use Rattle.marseille.specs.declared.run.PutAnswer.{PutAnswer}
 use Rattle.marseille.specs.declared.run.PutAnswer.TheVariants.{NameTaken, NotGround, TooLarge, Kept}
 

@@ -1,7 +1,7 @@
 //! The commands of an input, run one after the other over one table.
 ghost use Rattle.std.specs.Prelude.{◌≡◌, ◌<◌, ◌≤◌, ◌+◌, ℕ, List, [], length, All, IfOk, OnOk};
-ghost use Rattle.mars_table.specs.Object.{empty_table};
-ghost use Rattle.mars_table.specs.Sound.{IsSound};
+ghost use Rattle.mars_rows.specs.Object.{empty_table};
+ghost use Rattle.mars_rows.specs.Sound.{IsSound};
 ghost use Rattle.mars_read.specs.First.{nodes_in};
 ghost use Rattle.marseille.specs.Run.{IsAnswered, given_with, IsRun};
 ghost use Rattle.marseille.specs.RunInside.{IsFormOf, HaveRun};

@@ -1,7 +1,7 @@
 use Rattle.std.proofs.Common.{ℕ, sym, subst, ap, ◌∙◌, length, arith}
 use Rattle.std.proofs.lemmas.Bool.{false≢true}
 use Rattle.mars_canon.specs.Canon.{IsCanon}
-use Rattle.mars_table.specs.TreeGraph.{IsTreeGraphOf}
+use Rattle.mars_rows.specs.TreeGraph.{IsTreeGraphOf}
 use Rattle.marseille.specs.Run.{IsTooLarge}
 use Rattle.marseille.proofs.OneForm.{reaches_free, reaches_no_free, is_tree_of, is_too_large}
 use Rattle.marseille.proofs.run.form_of.Goals as goal

@@ -1,10 +1,10 @@
 use Rattle.std.proofs.Common.{subst, sym, List}
 use Rattle.mars_read.specs.declared.first.FirstPut.{FirstPut}
-use Rattle.mars_table.specs.Object.{TableObject}
-use Rattle.mars_table.specs.Sound.{IsSound}
+use Rattle.mars_rows.specs.Object.{TableObject}
+use Rattle.mars_rows.specs.Sound.{IsSound}
 use Rattle.marseille.specs.declared.run.TheConstants.{ROW_LIMIT}
 use Rattle.marseille.specs.RunInside.{HaveRun}
-use Rattle.mars_table.proofs.CallerLemmas.{sound_empty}
+use Rattle.mars_rows.proofs.CallerLemmas.{sound_empty}
 use Rattle.marseille.proofs.Running.{text-run}
 use Rattle.marseille.proofs.run.run.Goals as goal
 

@@ -1,4 +1,4 @@
-use Rattle.mars_table.proofs.CallerLemmas.{interns_to_lasts}
+use Rattle.mars_rows.proofs.CallerLemmas.{interns_to_lasts}
 use Rattle.marseille.proofs.run.run_put.Goals as goal
 
 pub returns-in_ok-push-in-Small-clause-sound : goal.returns-in_ok-push-in-Small-clause-sound

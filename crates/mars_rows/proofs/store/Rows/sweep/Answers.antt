@@ -1,0 +1,45 @@
+use Rattle.std.proofs.Common.{◌≡◌, ℕ, ◌<◌, ◌≤◌, ◌+◌, ◌-◌, not, nat_lt, true, false, List, [], ◌∷◌, ◌++◌, length, vec_len, filter, All, Contains, subst, sym, ap, ◌∙◌, arith, rules}
+use Rattle.mars_tree.specs.Graph.{Node}
+use Rattle.mars_rows.specs.Rows.{Row}
+use Rattle.mars_rows.specs.Object.{TableObject, fresh_before, fresh_rows, row_number, sweep, is_met}
+use Rattle.mars_rows.specs.RowsObject.{RowsObject, fits, with_tree, Adding, root, too_many, add}
+use Rattle.mars_rows.specs.StockInside.{stock_rows, IsStock}
+use Rattle.mars_rows.specs.StoreInside.{table_in}
+use Rattle.mars_rows.specs.TreeGraph.{IsTreeGraph}
+use Rattle.mars_rows.proofs.Holding.{not_more, add_here, add_swept, add_full, among_below, pins_kept, counted_fresh, counted_all}
+use Rattle.mars_rows.proofs.Stocked.{length-stock, contains_stock}
+use Rattle.mars_rows.specs.Object.{swept as swept_count}
+use Rattle.mars_rows.proofs.store.Rows.sweep.Goals as goal
+
+pub invariant_of-self : goal.invariant_of-self
+invariant_of-self c =
+    let p = c.self.inside in
+    let i = c.self.invariant in
+    let g = p.stock.nodes in
+    let ns = p.stock.numbers.items in
+    let h = c.in_ok-left.left.nodes in
+    let ms = c.in_ok-left.left.numbers.items in
+    let l = c.in_ok-left.ensures in
+    record {
+      stock = l.stock;
+      below = among_below ns ms p.next i.below l.among;
+      pinned = subst (All (λ (pin : ℕ × ℕ). Contains ms pin.1)) c.deref.ensures.value l.pinned;
+      within = omega (arith, l.fewer, i.within);
+      fits = i.fits;
+    }
+
+pub returns-clause-count : goal.returns-clause-count
+returns-clause-count c =
+    let p = c.self.inside in
+    let i = c.self.invariant in
+    let g = p.stock.nodes in
+    let ns = p.stock.numbers.items in
+    let h = c.in_ok-left.left.nodes in
+    let ms = c.in_ok-left.left.numbers.items in
+    let l = c.in_ok-left.ensures in
+    let rest : List Row = (sweep (table_in p)).rows in
+    let rows : stock_rows h ms ≡ rest =
+    l.rows ∙ ap (λ ps. filter (λ (row : Row). is_met (record { rows = stock_rows g ns; pins = ps; next = 0; limit = 0 }) row.number) (stock_rows g ns)) c.deref.ensures.value in
+    let size : length h ≡ length rest = sym (length-stock h ms l.stock) ∙ ap length rows in
+    let count : c.len.result - c.len-2.result ≡ length (stock_rows g ns) - length rest = omega (arith, c.len.ensures.len, c.len-2.ensures.len, size, length-stock g ns i.stock, l.fewer) in
+    count ∙ ap (λ (o : RowsObject). swept_count o.table) c.self.view_is

@@ -1,5 +1,0 @@
-use Rattle.mars_table.proofs.Found.{find_means}
-use Rattle.mars_table.proofs.laws.find_means.Goals as goal
-
-pub returns : goal.returns
-returns c = find_means

@@ -1,5 +1,0 @@
-use Rattle.mars_table.proofs.StaysSound.{interns_to_lasts}
-use Rattle.mars_table.proofs.laws.interns_to_lasts.Goals as goal
-
-pub returns : goal.returns
-returns c = interns_to_lasts

@@ -1,5 +1,0 @@
-use Rattle.mars_table.proofs.StaysSound.{one_interning}
-use Rattle.mars_table.proofs.laws.one_interning.Goals as goal
-
-pub returns : goal.returns
-returns c = one_interning
