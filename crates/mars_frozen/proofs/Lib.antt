@@ -1,0 +1,5 @@
+pub mod CallerLemmas
+pub mod Filing
+pub mod Lists
+pub mod Marks
+pub mod Wakes
