@@ -2,7 +2,7 @@
 use Rattle.std.proofs.Common.{◌≡◌, ℕ, zero, suc, List, [], ◌∷◌, ◌++◌, refl, Some, Bool, true, false, ◌&&◌, ◌||◌, not, subst}
 use Rattle.std.specs.Prelude.{is_some, slice_get}
 use Rattle.mars_grammar.specs.FormTable.{FormTable, if_not, leaves_in}
-use Rattle.mars_grammar.specs.Testing.{Test, Passes, all_of, implies, is_optional, may, fits, fits_if, starts}
+use Rattle.mars_grammar.specs.Testing.{Test, Passes, all_of, implies, is_optional, may, form_fits, form_fits_if, starts}
 
 pub and-left : (a b : Bool) → a && b ≡ true → a ≡ true
 and-left true b e = refl
@@ -37,8 +37,8 @@ module _ {S K T A M : Type 0} (G : FormTable S K T A M) (C : Test S K T M) (P : 
   pub each-symbol : (p : S → Bool) → all_of p C.symbols ≡ true → (s : S) → p s ≡ true
   each-symbol p e s = holds-in p C.symbols e (C.symbol_place s) s (P.all_symbols s)
 
-  pub valid : (s : S) (u : K) (form : List S) → G.takes s u ≡ Some form → fits G C s form ≡ true
-  valid s u form e = subst (λ o. fits_if G C s o ≡ true) e (each (λ u. fits_if G C s (G.takes s u)) (each-symbol (λ s. all_of (λ u. fits_if G C s (G.takes s u)) C.kinds) P.forms s) u)
+  pub valid : (s : S) (u : K) (form : List S) → G.takes s u ≡ Some form → form_fits G C s form ≡ true
+  valid s u form e = subst (λ o. form_fits_if G C s o ≡ true) e (each (λ u. form_fits_if G C s (G.takes s u)) (each-symbol (λ s. all_of (λ u. form_fits_if G C s (G.takes s u)) C.kinds) P.forms s) u)
 
   bars-at : (s : S) (u : K) → implies (is_some (G.leaves s) && is_some (G.takes s u)) (C.bars s u) ≡ true
   bars-at s u = each (λ u. implies (is_some (G.leaves s) && is_some (G.takes s u)) (C.bars s u)) (each-symbol (λ s. all_of (λ u. implies (is_some (G.leaves s) && is_some (G.takes s u)) (C.bars s u)) C.kinds) P.barred s) u
@@ -63,7 +63,7 @@ module _ {S K T A M : Type 0} (G : FormTable S K T A M) (C : Test S K T M) (P : 
       at-symbol false true none behind ih = ih none behind
 
   -- what is due behind a token
-  pub apart-form : (s : S) (form k : List S) → fits G C s form ≡ true → ((u : K) → C.bars s u ≡ true → may G u k ≡ false) → IsApart k → IsApart (form ++ k)
+  pub apart-form : (s : S) (form k : List S) → form_fits G C s form ≡ true → ((u : K) → C.bars s u ≡ true → may G u k ≡ false) → IsApart k → IsApart (form ++ k)
   apart-form s [] k fit behind rest = rest
   apart-form s (x ∷ y) k fit behind rest =
       let first = and-left (all_of (λ u. implies (C.bars x u) (not (may G u y))) C.kinds) _ fit in

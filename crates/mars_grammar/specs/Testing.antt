@@ -45,13 +45,13 @@ may G u [] = false
 may G u (s ∷ k) = is_some (G.takes s u) || (is_some (G.leaves s) && may G u k)
 
 -- a form of a symbol: none of its symbols bars what can come after it
-abbrev pub fits : {S K T A M : Type 0} → FormTable S K T A M → Test S K T M → S → List S → Bool
-fits G C s [] = true
-fits G C s (x ∷ y) = all_of (λ u. implies (C.bars x u) (not (may G u y))) C.kinds && (implies (is_optional G y) (all_of (λ u. implies (C.bars x u) (C.bars s u)) C.kinds) && fits G C s y)
+abbrev pub form_fits : {S K T A M : Type 0} → FormTable S K T A M → Test S K T M → S → List S → Bool
+form_fits G C s [] = true
+form_fits G C s (x ∷ y) = all_of (λ u. implies (C.bars x u) (not (may G u y))) C.kinds && (implies (is_optional G y) (all_of (λ u. implies (C.bars x u) (C.bars s u)) C.kinds) && form_fits G C s y)
 
-abbrev pub fits_if : {S K T A M : Type 0} → FormTable S K T A M → Test S K T M → S → Option (List S) → Bool
-fits_if G C s None = true
-fits_if G C s (Some form) = fits G C s form
+abbrev pub form_fits_if : {S K T A M : Type 0} → FormTable S K T A M → Test S K T M → S → Option (List S) → Bool
+form_fits_if G C s None = true
+form_fits_if G C s (Some form) = form_fits G C s form
 
 -- the symbols that a text begins with
 abbrev pub starts : {S K T A M : Type 0} → FormTable S K T A M → Test S K T M → List S → Bool
@@ -60,7 +60,7 @@ starts G C (x ∷ y) = all_of (λ u. implies (C.bars x u) (not (may G u y))) C.k
 
 -- each form of each symbol fits
 abbrev pub fits_each : {S K T A M : Type 0} → FormTable S K T A M → Test S K T M → Bool
-fits_each G C = all_of (λ s. all_of (λ u. fits_if G C s (G.takes s u)) C.kinds) C.symbols
+fits_each G C = all_of (λ s. all_of (λ u. form_fits_if G C s (G.takes s u)) C.kinds) C.symbols
 
 -- a symbol that can be left out bars what it takes
 abbrev pub bars_each : {S K T A M : Type 0} → FormTable S K T A M → Test S K T M → Bool

@@ -15,7 +15,7 @@ use Rattle.mars_rows.specs.Finding.{find_row}
 use Rattle.mars_rows.specs.Object.{TableObject, fresh_before, row_number, fresh_rows}
 use Rattle.mars_rows.specs.Sound.{AreClosed, IsApart, IsSound}
 use Rattle.mars_rows.specs.RowsInside.{rows_of}
-use Rattle.mars_rows.specs.StockInside.{number_of_node, under, stock_rows, AreRising, IsStock}
+use Rattle.mars_rows.specs.StockInside.{number_of_node, under, stock_rows, NumbersRise, IsStock}
 use Rattle.mars_rows.specs.TreeGraph.{IsTreeGraph}
 use Rattle.mars_rows.proofs.Distinct.{numbers, apart_from}
 use Rattle.mars_rows.proofs.Found.{option_map_some}
@@ -28,7 +28,7 @@ use Rattle.mars_rows.proofs.Under.{has_under, old_of, end_under, tree_under, clo
 use Rattle.mars_rows.proofs.WithFresh.{HasGrown}
 
 -- numbers that rise are one where their places are
-pub rising_one : (ns : List ℕ) → AreRising ns → (i j : ℕ) → i < length ns → j < length ns → number_of_node ns i ≡ number_of_node ns j → i ≡ j
+pub rising_one : (ns : List ℕ) → NumbersRise ns → (i j : ℕ) → i < length ns → j < length ns → number_of_node ns i ≡ number_of_node ns j → i ≡ j
 rising_one ns rising i j i_in j_in e = elim (cases_order i j) [
   | inl same ↦ same
   | inr other ↦ elim other [
@@ -156,7 +156,7 @@ module _ (g : List Node) (ns : List ℕ) (is : IsStock g ns) where
           let count : ℕ = fresh_before (rows_of g) tree (length tree) in
           omega (arith, length-append ns (range_with_len next count), length-range_with_len next count, is.size)
 
-      rising_more : AreRising more
+      rising_more : NumbersRise more
       rising_more i j lt j_in =
           let count : ℕ = fresh_before (rows_of g) tree (length tree) in
           let size : length more ≡ length g + count = more_size in

@@ -20,7 +20,7 @@ use Rattle.mars_rows.specs.Rows.{Row, row_at, HasRow, row_end}
 use Rattle.mars_rows.specs.Object.{TableObject, is_met, sweep}
 use Rattle.mars_rows.specs.Sound.{IsMet}
 use Rattle.mars_rows.specs.RowsInside.{rows_of}
-use Rattle.mars_rows.specs.StockInside.{number_of_node, under, stock_rows, AreRising, IsStock, in_order, AreKept}
+use Rattle.mars_rows.specs.StockInside.{number_of_node, under, stock_rows, NumbersRise, IsStock, in_order, AreKept}
 use Rattle.mars_rows.proofs.Found.{option_map_some}
 use Rattle.mars_rows.proofs.FreshRows.{in_range_of}
 use Rattle.mars_rows.proofs.Keeping.{same_bool, kept_by, was_kept, range_has, kept_rise, kept_rows}

@@ -21,8 +21,8 @@ abbrev pub stock_rows : List Node → List ℕ → List Row
 stock_rows g numbers = map (under (number_of_node numbers)) (rows_of g)
 
 -- each number is less than those after it
-abbrev pub AreRising : List ℕ → Type 0
-AreRising numbers = (i j : ℕ) → i < j → j < length numbers → number_of_node numbers i < number_of_node numbers j
+abbrev pub NumbersRise : List ℕ → Type 0
+NumbersRise numbers = (i j : ℕ) → i < j → j < length numbers → number_of_node numbers i < number_of_node numbers j
 
 -- distinct trees without free leaves, each under a number, and numbers rise
 pub record IsStock (g : List Node) (numbers : List ℕ) : Type 0 where
@@ -30,7 +30,7 @@ pub record IsStock (g : List Node) (numbers : List ℕ) : Type 0 where
   pub labels : IsGround g
   pub apart : IsReduced g
   pub size : length numbers ≡ length g
-  pub rising : AreRising numbers
+  pub rising : NumbersRise numbers
 
 -- those nodes that were met, in the order of their places
 abbrev pub in_order : List Node → List ℕ → List ℕ

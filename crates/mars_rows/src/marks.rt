@@ -3,7 +3,7 @@ ghost use Rattle.std.specs.Prelude.{◌≡◌, ℕ, ◌<◌, ◌≤◌, length, 
 ghost use Rattle.std.specs.List.{list_any, range_with_len};
 ghost use Rattle.mars_reach.specs.Order.{IsReach};
 ghost use Rattle.mars_rows.specs.Object.{is_met};
-ghost use Rattle.mars_rows.specs.StockInside.{number_of_node, stock_rows, AreRising, AreKept, IsStock, in_order};
+ghost use Rattle.mars_rows.specs.StockInside.{number_of_node, stock_rows, NumbersRise, AreKept, IsStock, in_order};
 
 use crate::stock::{Stock, place_of};
 use mars_base::NoMemory;
@@ -13,7 +13,7 @@ use std::alloc::Global;
 
 /// The places of pinned rows.
 fn roots_of(alloc: Global, numbers: &[u128], pins: &[(u32, u128)]) -> Result<Vec<usize>, NoMemory>
-    requires rising { AreRising numbers.now }
+    requires rising { NumbersRise numbers.now }
     requires pinned { All (λ pin. Contains numbers.now pin.1) pins.now }
     ensures within { IfOk result (λ roots. All (λ root. root < length numbers.now) roots.items) }
     ensures are { IfOk result (λ roots. map (number_of_node numbers.now) roots.items ≡ map (λ pin. pin.1) pins.now) }

@@ -4,7 +4,7 @@ ghost use Rattle.std.specs.List.{range_with_len};
 ghost use Rattle.mars_rows.specs.FreshInside.{fresh_nodes};
 ghost use Rattle.mars_rows.specs.Object.{fresh_before, fresh_rows, row_number};
 ghost use Rattle.mars_rows.specs.RowsInside.{rows_of};
-ghost use Rattle.mars_rows.specs.StockInside.{number_of_node, stock_rows, AreRising, IsStock};
+ghost use Rattle.mars_rows.specs.StockInside.{number_of_node, stock_rows, NumbersRise, IsStock};
 ghost use Rattle.mars_rows.specs.TreeGraph.{IsTreeGraph};
 
 use crate::growth::Numbered;
@@ -31,7 +31,7 @@ fn push_next(numbers: &mut Vec<u128>, next: u128, count: usize)
 
 /// The place of a number in numbers that rise.
 pub(crate) fn place_of(numbers: &[u128], number: u128) -> usize
-    requires rising { AreRising numbers.now }
+    requires rising { NumbersRise numbers.now }
     requires there { Contains numbers.now number }
     ensures within { result < length numbers.now }
     ensures is { number_of_node numbers.now result ≡ number }

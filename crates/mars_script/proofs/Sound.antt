@@ -7,7 +7,7 @@ use Rattle.mars_script.specs.declared.kinds.Kind.TheVariants as kind
 use Rattle.mars_script.specs.declared.steps.Given.{Given}
 use Rattle.mars_script.specs.declared.steps.Phase.{Phase}
 use Rattle.mars_script.specs.declared.steps.Phase.TheVariants as phase
-use Rattle.mars_script.specs.declared.steps.State.{State}
+use Rattle.mars_script.specs.declared.steps.WordState.{WordState}
 use Rattle.mars_script.specs.declared.steps.Step.{Step}
 use Rattle.mars_script.specs.declared.steps.Step.TheVariants as step
 use Rattle.mars_script.specs.declared.words.Mode.{Mode}
@@ -98,7 +98,7 @@ data IsRest : Given → List (List ℕ) → Given → List ℕ → Type 0 where
   is_rest : {given later : Given} {options end : List (List ℕ)} (words : List (List ℕ)) (numbers : List ℕ) →
       AreOptions given options later → IsEnd end → AreSessionNumbers words numbers → IsRest given (options ++ (end ++ words)) later numbers
 
-allowed : (b : Bool) (state : State) (words : List (List ℕ)) (r : Given × List ℕ) → over (cond b (step.Goes state) step.Refused) [] words ≡ Some r →
+allowed : (b : Bool) (state : WordState) (words : List (List ℕ)) (r : Given × List ℕ) → over (cond b (step.Goes state) step.Refused) [] words ≡ Some r →
     (b ≡ true) × (goes_over state [] words ≡ Some r)
 allowed true state words r e = (refl, e)
 allowed false state words r e = no_some r e

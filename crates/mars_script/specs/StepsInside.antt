@@ -5,7 +5,7 @@ use Rattle.mars_script.specs.declared.kinds.Kind.TheVariants as kind
 use Rattle.mars_script.specs.declared.steps.Given.{Given}
 use Rattle.mars_script.specs.declared.steps.Phase.{Phase}
 use Rattle.mars_script.specs.declared.steps.Phase.TheVariants as phase
-use Rattle.mars_script.specs.declared.steps.State.{State}
+use Rattle.mars_script.specs.declared.steps.WordState.{WordState}
 use Rattle.mars_script.specs.declared.steps.Step.{Step}
 use Rattle.mars_script.specs.declared.steps.Step.TheVariants as step
 use Rattle.mars_script.specs.declared.words.TheConstants.{MOST_STEPS, MOST_ROWS, LAST_SESSION}
@@ -14,11 +14,11 @@ use Rattle.mars_script.specs.KindsInside.{kind_of}
 use Rattle.mars_script.specs.Written.{number_up_to}
 
 -- a state
-abbrev pub at_phase : Phase → Given → State
+abbrev pub at_phase : Phase → Given → WordState
 at_phase phase given = record { phase = phase; given = given }
 
 -- where an option may come
-abbrev pub at_options : Given → State
+abbrev pub at_options : Given → WordState
 at_options given = at_phase phase.Options given
 
 -- what a word of a kind does, where an option may come
@@ -40,7 +40,7 @@ next_in phase.Rows given word = elim (number_up_to MOST_ROWS word) [ Some number
 next_in phase.Numbers given word = elim (number_up_to LAST_SESSION word) [ Some number ↦ step.Counts given number | None ↦ step.Refused ]
 
 -- what a word does, after those before it
-abbrev pub next_of : State → List ℕ → Step
+abbrev pub next_of : WordState → List ℕ → Step
 next_of state word = next_in state.phase state.given word
 
 -- what is given at last, none where a number is still awaited
@@ -51,7 +51,7 @@ at_end phase.Rows given numbers = None
 at_end phase.Numbers given numbers = Some (given, numbers)
 
 -- what words give, after those before them with their numbers; none where one of them is refused
-abbrev pub goes_over : State → List ℕ → List (List ℕ) → Option (Given × List ℕ)
+abbrev pub goes_over : WordState → List ℕ → List (List ℕ) → Option (Given × List ℕ)
 goes_over state numbers [] = at_end state.phase state.given numbers
 goes_over state numbers (word ∷ words) = elim (next_of state word) [
     step.Goes later ↦ goes_over later numbers words

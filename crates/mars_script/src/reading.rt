@@ -9,7 +9,7 @@ ghost use Rattle.mars_script.specs.declared.words.WordsError.TheVariants as why;
 
 use crate::kinds::is_word;
 use crate::numbers::read_number;
-use crate::steps::{Given, Phase, State, Step, next};
+use crate::steps::{Given, Phase, WordState, Step, next};
 use crate::words::{LAST_START, MOST_ROUNDS, MOST_ROWS, Mode, Options, USUAL_STEPS, Words, WordsError};
 use mars_base::NoMemory;
 use sqlite_items::Items;
@@ -143,7 +143,7 @@ fn read_rest(words: &[String], numbers: &mut Vec<u32>) -> Result<Option<Given>, 
     requires { numbers.old.items ≡ [] }
     ensures { IfOk result (λ found. goes_over (at_options nothing_given) [] (texts_of words.now) ≡ option_map (λ given. (given, numbers.new.items)) found) }
 {
-    let mut state = State {
+    let mut state = WordState {
         phase: Phase::Options,
         given: NOTHING,
     };
@@ -152,7 +152,7 @@ fn read_rest(words: &[String], numbers: &mut Vec<u32>) -> Result<Option<Given>, 
             Step::Goes(later) => state = later,
             Step::Counts(given, number) => {
                 numbers.push(number)?;
-                state = State {
+                state = WordState {
                     phase: Phase::Numbers,
                     given,
                 };
@@ -164,7 +164,7 @@ fn read_rest(words: &[String], numbers: &mut Vec<u32>) -> Result<Option<Given>, 
 }
 
 /// What is given at last, none where a number is still awaited.
-fn given_at(state: State) -> Option<Given>
+fn given_at(state: WordState) -> Option<Given>
     ensures { (numbers : List ℕ) → at_end state.phase state.given numbers ≡ option_map (λ given. (given, numbers)) result }
 {
     match state.phase {

@@ -31,7 +31,7 @@ pub enum Phase {
 
 /// What was read so far, numbers aside.
 #[derive(Clone, Copy)]
-pub struct State {
+pub struct WordState {
     pub phase: Phase,
     pub given: Given,
 }
@@ -40,14 +40,14 @@ pub struct State {
 #[derive(Clone, Copy)]
 pub enum Step {
     /// It is one of the options, or ends them.
-    Goes(State),
+    Goes(WordState),
     /// It is a number; what was given stays.
     Counts(Given, u32),
     Refused,
 }
 
 /// What a word does, after those before it.
-pub(crate) fn next(state: State, word: &str) -> Step
+pub(crate) fn next(state: WordState, word: &str) -> Step
     ensures { result ≡ next_of state word.now }
 {
     match state.phase {
@@ -72,10 +72,10 @@ fn next_option(given: Given, kind: Kind) -> Step
     ensures { result ≡ next_option_of given kind }
 {
     match kind {
-        Kind::Steps => goes_where(given.steps.is_none(), State { phase: Phase::Steps, given }),
-        Kind::Rows => goes_where(given.rows.is_none(), State { phase: Phase::Rows, given }),
+        Kind::Steps => goes_where(given.steps.is_none(), WordState { phase: Phase::Steps, given }),
+        Kind::Rows => goes_where(given.rows.is_none(), WordState { phase: Phase::Rows, given }),
         Kind::Log => goes_where(!given.log, with_log(given)),
-        Kind::End => Step::Goes(State { phase: Phase::Numbers, given }),
+        Kind::End => Step::Goes(WordState { phase: Phase::Numbers, given }),
         Kind::StepsAre(steps) => goes_where(given.steps.is_none(), with_steps(given, steps)),
         Kind::RowsAre(rows) => goes_where(given.rows.is_none(), with_rows(given, rows)),
         Kind::Number(number) => Step::Counts(given, number),
@@ -84,7 +84,7 @@ fn next_option(given: Given, kind: Kind) -> Step
 }
 
 /// A step to a state where it is allowed.
-fn goes_where(allowed: bool, state: State) -> Step
+fn goes_where(allowed: bool, state: WordState) -> Step
     ensures { result ≡ cond allowed (step.Goes state) step.Refused }
 {
     if allowed {
@@ -95,10 +95,10 @@ fn goes_where(allowed: bool, state: State) -> Step
 }
 
 /// The steps are given, and the next option may come.
-fn with_steps(given: Given, steps: u64) -> State
+fn with_steps(given: Given, steps: u64) -> WordState
     ensures { result ≡ at_options (given_steps given steps) }
 {
-    State {
+    WordState {
         phase: Phase::Options,
         given: Given {
             steps: Some(steps),
@@ -109,10 +109,10 @@ fn with_steps(given: Given, steps: u64) -> State
 }
 
 /// The rows are given, and the next option may come.
-fn with_rows(given: Given, rows: u64) -> State
+fn with_rows(given: Given, rows: u64) -> WordState
     ensures { result ≡ at_options (given_rows given rows) }
 {
-    State {
+    WordState {
         phase: Phase::Options,
         given: Given {
             steps: given.steps,
@@ -123,10 +123,10 @@ fn with_rows(given: Given, rows: u64) -> State
 }
 
 /// The log is asked for, and the next option may come.
-fn with_log(given: Given) -> State
+fn with_log(given: Given) -> WordState
     ensures { result ≡ at_options (given_log given) }
 {
-    State {
+    WordState {
         phase: Phase::Options,
         given: Given {
             steps: given.steps,

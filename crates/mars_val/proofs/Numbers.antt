@@ -2,7 +2,7 @@
 use Rattle.std.proofs.Common.{◌≡◌, ◌⊎◌, ℕ, ℤ, zero, suc, ◌+◌, ◌<◌, ◌≤◌, List, [], ◌∷◌, length, get_or, slice_get, Contains, Option, Some, None, refl, sym, ap, ap₂, ◌∙◌, subst, arith, inl, inr}
 use Rattle.std.proofs.lemmas.Option.{same_Some}
 use Rattle.mars_tree.specs.declared.label.Label.{Label}
-use Rattle.mars_tree.specs.declared.label.Label.TheVariants.{Name, Int, Dot, Tup}
+use Rattle.mars_tree.specs.declared.label.Label.TheVariants.{Name, Int, Dot, Tup, Str}
 use Rattle.mars_tree.specs.Graph.{label_of, kids_of, arity_at}
 use Rattle.mars_store.specs.System.{System, IsSystem, resolve}
 use Rattle.mars_val.specs.declared.operation.Operation.{Operation}
@@ -30,6 +30,7 @@ same-name o p e = number (operation_label o) (operation_label p) refl refl (same
     name (Int z) = 0
     name Dot = 0
     name (Tup arity) = 0
+    name (Str text) = 0
 
     number : (a b : Label) → a ≡ operation_label o → b ≡ operation_label p → a ≡ b → operation_name o ≡ operation_name p
     number a b i j e = sym (ap name i) ∙ ap name e ∙ ap name j

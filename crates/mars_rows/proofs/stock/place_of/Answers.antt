@@ -4,11 +4,11 @@ use Rattle.std.proofs.lemmas.Option.{get_or_from_slice_get}
 use Rattle.std.proofs.lemmas.List.Sorted.{searched}
 use Rattle.std.specs.Result.{MatchResult}
 use Rattle.mars_base.proofs.ListFacts.{get-Contains}
-use Rattle.mars_rows.specs.StockInside.{AreRising, number_of_node}
+use Rattle.mars_rows.specs.StockInside.{NumbersRise, number_of_node}
 use Rattle.mars_rows.proofs.stock.place_of.Goals as goal
 
 -- numbers that rise don't fall
-level : (ns : List ℕ) → AreRising ns → (i j : ℕ) → i ≤ j → j < length ns → get_or ns i 0 ≤ get_or ns j 0
+level : (ns : List ℕ) → NumbersRise ns → (i j : ℕ) → i ≤ j → j < length ns → get_or ns i 0 ≤ get_or ns j 0
 level ns rising i j le j_in = elim (cases_order i j) [
   | inl same ↦ subst (λ (k : ℕ). get_or ns i 0 ≤ get_or ns k 0) same (omega arith)
   | inr other ↦ elim other [
