@@ -1,5 +1,6 @@
 //! Strings between their quotes.
 ghost use Rattle.std.specs.Prelude.{◌≡◌, ◌++◌, OnOk};
+ghost use Rattle.std.specs.List.{flat_map};
 ghost use Rattle.mars_print.specs.Text.{escaped, quoted};
 
 use mars_base::NoMemory;
@@ -20,14 +21,22 @@ fn push_escaped(byte: u8, into: &mut Vec<u8>) -> Result<(), NoMemory>
     Ok(())
 }
 
+/// Appends the bytes of a string, escaped. Linear in them.
+fn push_escaped_all(text: &[u8], into: &mut Vec<u8>) -> Result<(), NoMemory>
+    ensures { OnOk result (into.new.items ≡ into.old.items ++ flat_map escaped text.now) }
+{
+    for byte in text {
+        push_escaped(*byte, into)?;
+    }
+    Ok(())
+}
+
 /// Appends a string between its quotes. Linear in its bytes.
 pub(crate) fn push_string(text: &[u8], into: &mut Vec<u8>) -> Result<(), NoMemory>
     ensures { OnOk result (into.new.items ≡ into.old.items ++ quoted text.now) }
 {
     into.push(b'"')?;
-    for byte in text {
-        push_escaped(*byte, into)?;
-    }
+    push_escaped_all(text, into)?;
     into.push(b'"')?;
     Ok(())
 }
