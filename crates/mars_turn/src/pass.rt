@@ -11,9 +11,9 @@ use atomic_table::Seat;
 pub struct Pass<V: Listed> {
     pub(crate) seat: Seat<Option<V>, PassView<V::Item>>,
     pub(crate) number: u32,
-    // how many passes ended in it
+    /// How many passes ended in it.
     pub(crate) joined: u64,
-    // how many passes there are, where it knows that
+    /// How many passes there are, where it knows that.
     pub(crate) made: Option<u64>,
     pub(crate) inside: bool,
     ghost live: { seat.me.0.live ≡ true },

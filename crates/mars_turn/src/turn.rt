@@ -36,7 +36,7 @@ pub struct Turn<V: Listed> {
     ghost sized: { (table.shared.table_id.words ≡ 1) × (table.shared.table_id.slots ≡ 1) },
 }
 
-// The one slot, with the value in it.
+/// The one slot, with the value in it.
 fn one_slot<V: Drop>(alloc: Global, value: V) -> Result<Vec<Option<V>>, AllocError>
     ensures { IfOk result (λ s. s.items ≡ Some value ∷ []) }
 {
@@ -78,7 +78,7 @@ impl<V: Listed> Turn<V> {
         }
     }
 
-    // Waits for the turn, and takes it.
+    /// Waits until word 0 is 0, and makes it 1.
     fn take<R: Wait>(&self, rt: &R, seat: &mut Seat<Option<V>, PassView<V::Item>>)
         requires of { seat.old.table_id ≡ turn_id self.now }
         requires outside { (seat.old.me.0.live ≡ true) × IsOutside seat.old.me.0 × (seat.old.me.1 ≡ []) }

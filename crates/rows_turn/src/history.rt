@@ -66,7 +66,7 @@ impl History {
 pub(crate) fn counted(entries: &[Entry], who: u32) -> Option<u64> {
     let mut next = 0_u64;
     for entry in entries {
-        if entry.who == who {
+        if History::caller(entry) == who {
             if entry.item != next {
                 return None;
             }
