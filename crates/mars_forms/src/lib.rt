@@ -9,4 +9,4 @@ mod table;
 pub use lexeme::{Lexeme, TokenKind};
 pub use starts::{parse_goals, parse_input_one, parse_input_two, parse_tree};
 pub use symbol::{FormAction, FormMode, FormSymbol, Trigger};
-pub use table::{FORMS, SymbolEntry, FormRow, Forms, GOALS, INPUT, TREE};
+pub use table::{FORMS, FormRow, Forms, GOALS, INPUT, SymbolEntry, TREE};
