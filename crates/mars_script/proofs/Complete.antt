@@ -23,10 +23,10 @@ use Rattle.mars_script.proofs.NumberLemmas.{no_minus}
 -- what a step does before the other words
 abbrev pub over : Step → List ℕ → List (List ℕ) → Option (Given × List ℕ)
 over made numbers words = elim made [
-    step.Goes later ↦ goes_over later numbers words
+  | step.Goes later ↦ goes_over later numbers words
   | step.Counts given number ↦ goes_over (at_phase phase.Numbers given) (numbers ++ number ∷ []) words
   | step.Refused ↦ None
-  ]
+]
 
 -- a number is no option
 unequal_bytes : (b : Bool) (byte other : ℕ) → nat_eq byte other ≡ b → (byte ≡ other → ⊥) → nat_eq byte other ≡ false
@@ -36,15 +36,15 @@ unequal_bytes false byte other e h = e
 abbrev kind_after_rows : List ℕ → Option (List ℕ) → Kind
 kind_after_rows text rest =
     elim rest [
-      Some value ↦ elim (number_up_to MOST_ROWS value) [ Some number ↦ kind.RowsAre number | None ↦ kind.Other ]
-    | None ↦ elim (number_up_to LAST_SESSION text) [ Some number ↦ kind.Number number | None ↦ kind.Other ]
+      | Some value ↦ elim (number_up_to MOST_ROWS value) [ Some number ↦ kind.RowsAre number | None ↦ kind.Other ]
+      | None ↦ elim (number_up_to LAST_SESSION text) [ Some number ↦ kind.Number number | None ↦ kind.Other ]
     ]
 
 abbrev kind_after_steps : List ℕ → Option (List ℕ) → Kind
 kind_after_steps text rest =
     elim rest [
-      Some value ↦ elim (number_up_to MOST_STEPS value) [ Some number ↦ kind.StepsAre number | None ↦ kind.Other ]
-    | None ↦ kind_after_rows text (after (codes "--rows=") text)
+      | Some value ↦ elim (number_up_to MOST_STEPS value) [ Some number ↦ kind.StepsAre number | None ↦ kind.Other ]
+      | None ↦ kind_after_rows text (after (codes "--rows=") text)
     ]
 
 pub number_kind : (word : List ℕ) (number : ℕ) → number_up_to LAST_SESSION word ≡ Some number → kind_of word ≡ kind.Number number
@@ -53,8 +53,8 @@ number_kind (byte ∷ bytes) number e =
     let first = unequal_bytes (nat_eq byte 45) byte 45 refl (no_minus LAST_SESSION number byte bytes e) in
     let last = unequal_bytes (nat_eq 45 byte) 45 byte refl (λ is. no_minus LAST_SESSION number byte bytes e (sym is)) in
     sym (kind_last (byte ∷ bytes)
-      (ap (λ (b : Bool). b && pointwise nat_eq bytes (codes "-steps")) first) (ap (λ (b : Bool). b && pointwise nat_eq bytes (codes "-rows")) first)
-      (ap (λ (b : Bool). b && pointwise nat_eq bytes (codes "-log")) first) (ap (λ (b : Bool). b && pointwise nat_eq bytes (codes "-")) first))
+    (ap (λ (b : Bool). b && pointwise nat_eq bytes (codes "-steps")) first) (ap (λ (b : Bool). b && pointwise nat_eq bytes (codes "-rows")) first)
+    (ap (λ (b : Bool). b && pointwise nat_eq bytes (codes "-log")) first) (ap (λ (b : Bool). b && pointwise nat_eq bytes (codes "-")) first))
     ∙ ap (λ (b : Bool). kind_after_steps (byte ∷ bytes) (if b then after (codes "-steps=") bytes else None)) last
     ∙ ap (λ (b : Bool). kind_after_rows (byte ∷ bytes) (if b then after (codes "-rows=") bytes else None)) last
     ∙ ap (λ (o : Option ℕ). elim o [ Some n ↦ kind.Number n | None ↦ kind.Other ]) e

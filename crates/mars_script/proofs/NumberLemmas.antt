@@ -53,9 +53,9 @@ number_unread {E = E} most text r error parsed e fits = of_Err (subst (λ (s : R
     of_Err p =
         let ds = without_leading_plus text in
         dropped (test most ds) (digits_value 10 ds) (λ t.
-          let q = passed most ds t in
-          let bound : digits_value 10 ds ≤ most = q.1.1 in
-          p ((q.0, own.to ds q.1.0), omega (arith, bound, fits)))
+        let q = passed most ds t in
+        let bound : digits_value 10 ds ≤ most = q.1.1 in
+        p ((q.0, own.to ds q.1.0), omega (arith, bound, fits)))
 
 of_test : (b : Bool) (n k : ℕ) → (if b then Some n else None) ≡ Some k → b ≡ true
 of_test true n k e = refl

@@ -65,9 +65,9 @@ rows_number word value (Some number) e f = subst (λ (w : List ℕ). IsKind w (k
 rows_number word value None e f = is_other word
 
 rows_is : (word : List ℕ) (found : Option (List ℕ)) → after (codes "--rows=") word ≡ found → IsKind word (elim found [
-      Some value ↦ elim (number_up_to MOST_ROWS value) [ Some number ↦ kind.RowsAre number | None ↦ kind.Other ]
-    | None ↦ elim (number_up_to LAST_SESSION word) [ Some number ↦ kind.Number number | None ↦ kind.Other ]
-    ])
+  | Some value ↦ elim (number_up_to MOST_ROWS value) [ Some number ↦ kind.RowsAre number | None ↦ kind.Other ]
+  | None ↦ elim (number_up_to LAST_SESSION word) [ Some number ↦ kind.Number number | None ↦ kind.Other ]
+])
 rows_is word (Some value) e = rows_number word value (number_up_to MOST_ROWS value) (begins (codes "--rows=") word value e) refl
 rows_is word None e = number_is word (number_up_to LAST_SESSION word) refl
 
@@ -77,12 +77,12 @@ steps_number word value (Some number) e f = subst (λ (w : List ℕ). IsKind w (
 steps_number word value None e f = is_other word
 
 value_is : (word : List ℕ) (found : Option (List ℕ)) → after (codes "--steps=") word ≡ found → IsKind word (elim found [
-      Some value ↦ elim (number_up_to MOST_STEPS value) [ Some number ↦ kind.StepsAre number | None ↦ kind.Other ]
-    | None ↦ elim (after (codes "--rows=") word) [
-        Some value ↦ elim (number_up_to MOST_ROWS value) [ Some number ↦ kind.RowsAre number | None ↦ kind.Other ]
-      | None ↦ elim (number_up_to LAST_SESSION word) [ Some number ↦ kind.Number number | None ↦ kind.Other ]
-      ]
-    ])
+  | Some value ↦ elim (number_up_to MOST_STEPS value) [ Some number ↦ kind.StepsAre number | None ↦ kind.Other ]
+  | None ↦ elim (after (codes "--rows=") word) [
+    | Some value ↦ elim (number_up_to MOST_ROWS value) [ Some number ↦ kind.RowsAre number | None ↦ kind.Other ]
+    | None ↦ elim (number_up_to LAST_SESSION word) [ Some number ↦ kind.Number number | None ↦ kind.Other ]
+  ]
+])
 value_is word (Some value) e = steps_number word value (number_up_to MOST_STEPS value) (begins (codes "--steps=") word value e) refl
 value_is word None e = rows_is word (after (codes "--rows=") word) refl
 
@@ -290,8 +290,13 @@ record IsPlain (rest : List (List ℕ)) (later : Given) : Type 0 where
 
 plain_is : (later : Given) (rest : List (List ℕ)) → IsRest nothing_given rest later [] → IsPlain rest later
 plain_is later _ (is_rest {options = options} {end = end} words _ are last all) =
-    record { options = options; end = end; are = are; last = last;
-      rest_is = ap (λ (ws : List (List ℕ)). options ++ (end ++ ws)) (no_numbers words all) ∙ ap (λ (ws : List (List ℕ)). options ++ ws) (append-nil end) }
+    record {
+      options = options;
+      end = end;
+      are = are;
+      last = last;
+      rest_is = ap (λ (ws : List (List ℕ)). options ++ (end ++ ws)) (no_numbers words all) ∙ ap (λ (ws : List (List ℕ)). options ++ ws) (append-nil end);
+    }
 
 run_is : (later : Given) (rest : List (List ℕ)) → IsPlain rest later → IsWords (codes "run" ∷ rest) (says_mode mode.Run later)
 run_is later rest p = subst (λ (ws : List (List ℕ)). IsWords (codes "run" ∷ ws) (says_mode mode.Run later)) (sym p.rest_is) (run p.are p.last)

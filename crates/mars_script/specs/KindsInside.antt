@@ -16,10 +16,10 @@ after (byte ∷ bytes) (other ∷ text) = if nat_eq byte other then after bytes 
 abbrev pub kind_of_value : List ℕ → Kind
 kind_of_value text =
     elim (after (codes "--steps=") text) [
-      Some value ↦ elim (number_up_to MOST_STEPS value) [ Some number ↦ kind.StepsAre number | None ↦ kind.Other ]
-    | None ↦ elim (after (codes "--rows=") text) [
-        Some value ↦ elim (number_up_to MOST_ROWS value) [ Some number ↦ kind.RowsAre number | None ↦ kind.Other ]
-      | None ↦ elim (number_up_to LAST_SESSION text) [ Some number ↦ kind.Number number | None ↦ kind.Other ]
+      | Some value ↦ elim (number_up_to MOST_STEPS value) [ Some number ↦ kind.StepsAre number | None ↦ kind.Other ]
+      | None ↦ elim (after (codes "--rows=") text) [
+        | Some value ↦ elim (number_up_to MOST_ROWS value) [ Some number ↦ kind.RowsAre number | None ↦ kind.Other ]
+        | None ↦ elim (number_up_to LAST_SESSION text) [ Some number ↦ kind.Number number | None ↦ kind.Other ]
       ]
     ]
 

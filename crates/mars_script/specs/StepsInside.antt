@@ -54,7 +54,7 @@ at_end phase.Numbers given numbers = Some (given, numbers)
 abbrev pub goes_over : WordState → List ℕ → List (List ℕ) → Option (Given × List ℕ)
 goes_over state numbers [] = at_end state.phase state.given numbers
 goes_over state numbers (word ∷ words) = elim (next_of state word) [
-    step.Goes later ↦ goes_over later numbers words
+  | step.Goes later ↦ goes_over later numbers words
   | step.Counts given number ↦ goes_over (at_phase phase.Numbers given) (numbers ++ number ∷ []) words
   | step.Refused ↦ None
-  ]
+]

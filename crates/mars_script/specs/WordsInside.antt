@@ -39,9 +39,9 @@ mode_words first rest = elim (goes_over (at_options nothing_given) [] rest) [ So
 -- what a start and a size say
 abbrev pub start_words : List ℕ → List ℕ → Option Words
 start_words first second = elim (number_up_to LAST_START first) [
-    Some start ↦ elim (number_up_to MOST_ROUNDS second) [ Some size ↦ Some (says_mode (mode.Make start size) nothing_given) | None ↦ None ]
+  | Some start ↦ elim (number_up_to MOST_ROUNDS second) [ Some size ↦ Some (says_mode (mode.Make start size) nothing_given) | None ↦ None ]
   | None ↦ None
-  ]
+]
 
 -- the words without a first one that is `--`
 abbrev pub without_end : List (List ℕ) → List (List ℕ)

@@ -72,10 +72,25 @@ fn next_option(given: Given, kind: Kind) -> Step
     ensures { result ≡ next_option_of given kind }
 {
     match kind {
-        Kind::Steps => goes_where(given.steps.is_none(), WordState { phase: Phase::Steps, given }),
-        Kind::Rows => goes_where(given.rows.is_none(), WordState { phase: Phase::Rows, given }),
+        Kind::Steps => goes_where(
+            given.steps.is_none(),
+            WordState {
+                phase: Phase::Steps,
+                given,
+            },
+        ),
+        Kind::Rows => goes_where(
+            given.rows.is_none(),
+            WordState {
+                phase: Phase::Rows,
+                given,
+            },
+        ),
         Kind::Log => goes_where(!given.log, with_log(given)),
-        Kind::End => Step::Goes(WordState { phase: Phase::Numbers, given }),
+        Kind::End => Step::Goes(WordState {
+            phase: Phase::Numbers,
+            given,
+        }),
         Kind::StepsAre(steps) => goes_where(given.steps.is_none(), with_steps(given, steps)),
         Kind::RowsAre(rows) => goes_where(given.rows.is_none(), with_rows(given, rows)),
         Kind::Number(number) => Step::Counts(given, number),

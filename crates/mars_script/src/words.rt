@@ -43,10 +43,7 @@ pub enum Mode {
     /// A log is accepted or refused.
     Replay,
     /// The generator's input of so many rounds.
-    Make {
-        start: u64,
-        size: u32,
-    },
+    Make { start: u64, size: u32 },
 }
 
 /// What the words say.
