@@ -37,9 +37,9 @@ abbrev pub add : TableObject → List Node → Adding
 add t g = add_to (table_for t g) g
 
 -- the code's answer is that of the table object; where it is full, nothing changes
-abbrev pub HasAdded : Added → TableObject → List Node → TableObject → Type 0
-HasAdded (Root h) t g new = add t g ≡ root h new
-HasAdded (Full r f) t g new = (add t g ≡ too_many r f) × (new ≡ t)
+abbrev pub AddsTree : Added → TableObject → List Node → TableObject → Type 0
+AddsTree (Root h) t g new = add t g ≡ root h new
+AddsTree (Full r f) t g new = (add t g ≡ too_many r f) × (new ≡ t)
 
 -- the root that an answer gives has a row
 abbrev pub HasRoot : Added → TableObject → Type 0

@@ -5,7 +5,7 @@ ghost use Rattle.std.specs.List.{remove};
 ghost use Rattle.mars_rows.specs.Finding.{find_row};
 ghost use Rattle.mars_rows.specs.Rows.{HasRow};
 ghost use Rattle.mars_rows.specs.Object.{empty_table, sweep, swept as swept_count};
-ghost use Rattle.mars_rows.specs.RowsObject.{HasAdded, HasRoot, fits, with_pin, without_pin, without_first};
+ghost use Rattle.mars_rows.specs.RowsObject.{AddsTree, HasRoot, fits, with_pin, without_pin, without_first};
 ghost use Rattle.mars_rows.specs.Sound.{IsSound};
 
 use crate::growth::number_nodes;
@@ -98,7 +98,7 @@ impl Rows {
     /// pin meets go first. At `Full` and `NoMemory` nothing changes.
     pub fn add(&mut self, tree: &Tree) -> Result<Added, NoMemory>
         requires { self.old.table.next < 2 ^ 127 }
-        ensures added { IfOk result (λ added. HasAdded added self.old.table tree.now self.new.table) }
+        ensures added { IfOk result (λ added. AddsTree added self.old.table tree.now self.new.table) }
         ensures root { IfOk result (λ added. HasRoot added self.new.table) }
         ensures room { OnOk result (0 < self.new.room) }
         ensures err { OnErr result (self.new.table ≡ self.old.table) }
@@ -112,7 +112,7 @@ impl Rows {
     fn add_graph(&mut self, tree: &Graph) -> Result<Added, NoMemory>
         requires next { self.old.table.next < 2 ^ 127 }
         requires tree { IsTree tree.now }
-        ensures added { IfOk result (λ added. HasAdded added self.old.table tree.now self.new.table) }
+        ensures added { IfOk result (λ added. AddsTree added self.old.table tree.now self.new.table) }
         ensures root { IfOk result (λ added. HasRoot added self.new.table) }
         ensures room { OnOk result (0 < self.new.room) }
         ensures err { OnErr result (self.new.table ≡ self.old.table) }
@@ -133,7 +133,7 @@ impl Rows {
         requires tree { IsTree tree.now }
         requires full { fits self.old.table tree.now ≡ false }
         requires room { 0 < self.old.room }
-        ensures added { IfOk result (λ added. HasAdded added self.old.table tree.now self.new.table) }
+        ensures added { IfOk result (λ added. AddsTree added self.old.table tree.now self.new.table) }
         ensures root { IfOk result (λ added. HasRoot added self.new.table) }
         ensures room { OnOk result (0 < self.new.room) }
         ensures err { OnErr result (self.new.table ≡ self.old.table) }
