@@ -9,7 +9,7 @@ ghost use Rattle.mars_script.specs.declared.words.WordsError.TheVariants as why;
 
 use crate::kinds::is_word;
 use crate::numbers::read_number;
-use crate::steps::{Given, Phase, WordState, Step, next};
+use crate::steps::{Given, Phase, Step, WordState, next};
 use crate::words::{
     LAST_START, MOST_ROUNDS, MOST_ROWS, Mode, Options, USUAL_STEPS, Words, WordsError,
 };
