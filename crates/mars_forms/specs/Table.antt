@@ -1,8 +1,8 @@
 -- The grammar of inputs, trees and goals. The rows are those of the constant FORMS.
-use Rattle.std.specs.Prelude.{ℕ, List, [], Option, Bool, true, false, ◌==◌, ◌&&◌, not, slice_get}
+use Rattle.std.specs.Prelude.{ℕ, List, Bool, true, false, ◌==◌, ◌&&◌, not, slice_get}
 use denote.Enum.Declared.{tag_of}
 use Rattle.mars_grammar.specs.FormTable.{FormTable}
-use Rattle.mars_grammar.specs.Rows.{RowList, FormEntry, constant_entries, rows_at, leaves_at, first_row}
+use Rattle.mars_grammar.specs.Rows.{FormEntry, constant_entries, rows_at, leaves_at, first_row}
 use Rattle.mars_forms.specs.declared.lexeme.TokenKind.{TokenKind}
 use Rattle.mars_forms.specs.declared.lexeme.TokenKind.TheVariants as kind
 use Rattle.mars_forms.specs.declared.lexeme.Lexeme.{Lexeme}
@@ -66,6 +66,7 @@ abbrev pub stays : FormMode → FormSymbol → Bool
 stays mode.Alone due.BracketTail = true
 stays _ _ = false
 
+-- the table of a version, over these entries
 abbrev pub forms_with : List (FormEntry FormSymbol Trigger FormAction) → Bool → FormTable FormSymbol TokenKind Lexeme FormAction FormMode
 forms_with es two = record {
   kind = λ t. t.kind;

@@ -12,6 +12,7 @@ use Rattle.mars_forms.specs.declared.symbol.FormMode.TheVariants as mode
 use Rattle.mars_forms.specs.contracts.symbol.FormMode as mode_type
 use Rattle.mars_forms.specs.Table.{symbol_place, kind_place, entries, forms}
 
+-- the place of a mode in the list of modes
 abbrev pub mode_place : FormMode → ℕ
 mode_place m = tag_of mode_type.the_type m
 
@@ -23,9 +24,11 @@ all_kinds = kind.Rules ∷ kind.Session ∷ kind.End ∷ kind.Where ∷ kind.Rul
     ∷ kind.Arrow ∷ kind.Open ∷ kind.Close ∷ kind.Less ∷ kind.Greater ∷ kind.Comma ∷ kind.Dot ∷ kind.Semicolon ∷ kind.Slash ∷ kind.Equals ∷ kind.Hash
     ∷ kind.Refused ∷ []
 
+-- a token of each kind
 abbrev pub lexeme_of : TokenKind → Lexeme
 lexeme_of k = record { kind = k; start = 0; end = 0 }
 
+-- what the test is computed from
 abbrev pub listing : Listing FormSymbol TokenKind Lexeme FormMode
 listing = record {
   symbols = map (λ e. e.symbol) entries;
@@ -38,10 +41,25 @@ listing = record {
   rounds = 8;
 }
 
+-- the computed test
 abbrev pub forms_test : Bool → Test FormSymbol TokenKind Lexeme FormMode
 forms_test two = test_of (forms two) listing
 
 -- the test of both versions
 pub passes : (two : Bool) → Passes (forms two) (forms_test two)
-passes false = record { all_symbols = elim [ due.Input ↦ refl | _ ↦ refl ]; all_kinds = elim [ kind.Rules ↦ refl | _ ↦ refl ]; all_modes = elim [ mode.Fresh ↦ refl | _ ↦ refl ]; forms = refl; barred = refl; ended = refl }
-passes true = record { all_symbols = elim [ due.Input ↦ refl | _ ↦ refl ]; all_kinds = elim [ kind.Rules ↦ refl | _ ↦ refl ]; all_modes = elim [ mode.Fresh ↦ refl | _ ↦ refl ]; forms = refl; barred = refl; ended = refl }
+passes false = record {
+  all_symbols = elim [ due.Input ↦ refl | _ ↦ refl ];
+  all_kinds = elim [ kind.Rules ↦ refl | _ ↦ refl ];
+  all_modes = elim [ mode.Fresh ↦ refl | _ ↦ refl ];
+  forms = refl;
+  barred = refl;
+  ended = refl;
+}
+passes true = record {
+  all_symbols = elim [ due.Input ↦ refl | _ ↦ refl ];
+  all_kinds = elim [ kind.Rules ↦ refl | _ ↦ refl ];
+  all_modes = elim [ mode.Fresh ↦ refl | _ ↦ refl ];
+  forms = refl;
+  barred = refl;
+  ended = refl;
+}

@@ -20,7 +20,7 @@ module _ {S K T A M V L : Type 0} (G : FormTable S K T A M) (C : Test S K T M) (
   first-may m _ t ts _ (left_out {s} {k} {as'} {es} e d) =
       or-later (is_some (G.takes s (G.kind t))) (is_some (G.leaves s) && may G (G.kind t) k) (ap (λ l. is_some l && may G (G.kind t) k) (leaves-free G C P m s as' e) ∙ first-may m k t ts es d)
 
-  -- a symbol that can be left out doesn't take the first token behind it
+  -- a symbol that can be left out doesn't take the first token after it
   not-taken : (m : M) (s : S) (k : List S) (t : T) (as' : List A) → leaves_in G m s ≡ Some as' → ((u : K) → C.bars s u ≡ true → may G u k ≡ false) → may G (G.kind t) k ≡ true →
       (o : Option (List S)) → G.takes s (G.kind t) ≡ o → G.takes s (G.kind t) ≡ None
   not-taken m s k t as' e apart comes None f = f

@@ -184,7 +184,7 @@ module _ {S K T A M V L : Type 0} (G : FormTable S K T A M) (C : Test S K T M) (
       let no = over-walks (front ++ (t ∷ [])) took.next l (walk-one G B front t begin took.state took.walked ∙ ap (λ o. if_some o (λ n. Some n)) took.steps) over in
       let within = took.within in absurd cc
 
-  -- no fault in front of where the machine stopped
+  -- no fault before the place where the machine stopped
   no-fault-before : (tokens : List T) (other : Fault L) → HasFault G B start v tokens other → stop_of G B (token_run G B tokens begin) < tokens_left other → ⊥
   no-fault-before tokens other has less = go has.front has.rest has.whole has.left has.here less
     where

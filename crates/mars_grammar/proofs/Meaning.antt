@@ -1,4 +1,4 @@
--- What symbols stand for, told by what their forms stand for: which tokens, and what they make of a value.
+-- What symbols mean, told by what their forms mean: which tokens, and what they make of a value.
 use Rattle.std.proofs.Common.{◌≡◌, List, [], ◌∷◌, ◌++◌, refl, ap, sym, ◌∙◌, subst, Some, append_assoc}
 use Rattle.mars_grammar.specs.FormTable.{FormTable, Event, Read, said_events, Derives, nothing, taken, left_out}
 use Rattle.mars_grammar.specs.Building.{Build, performs, both}
@@ -38,7 +38,7 @@ module _ {S K T A M V L : Type 0} (G : FormTable S K T A M) (B : Build (Event S 
   means-taken : (s : S) (k : List S) (t : T) (form : List S) (ts : List T) (v w : V) → G.takes s (G.kind t) ≡ Some form → Split R form k ts (B.perform (Read s t) v) w → Each R (s ∷ k) (t ∷ ts) v w
   means-taken s k t form ts v w e parts = subst (λ l. Each R (s ∷ k) (t ∷ l) v w) parts.whole (then (takes s t form parts.us v parts.mid e parts.form_each) parts.rest_each)
 
-  -- what a text makes is what its symbols stand for
+  -- what a text makes is what its symbols mean
   pub means : (m : M) (k : List S) (ts : List T) (es : List (Event S T A)) → Derives G m k ts es → (v : V) → Each R k ts v (performs B es v)
   means m _ _ _ nothing v = done
   means m _ _ _ (taken {s} {k} {form} {t} {ts} {es} e d) v =

@@ -1,4 +1,4 @@
--- What the test of a table says: no symbol on a stack takes what may stand behind it.
+-- What the test of a table says: no symbol on a stack takes what may come after it.
 use Rattle.std.proofs.Common.{◌≡◌, ℕ, zero, suc, List, [], ◌∷◌, ◌++◌, refl, Some, Bool, true, false, ◌&&◌, ◌||◌, not, subst}
 use Rattle.std.specs.Prelude.{is_some, slice_get}
 use Rattle.mars_grammar.specs.FormTable.{FormTable, if_not, leaves_in}
@@ -47,32 +47,32 @@ module _ {S K T A M : Type 0} (G : FormTable S K T A M) (C : Test S K T M) (P : 
   pub bars-taken : (s : S) (u : K) (as' : List A) (form : List S) → G.leaves s ≡ Some as' → G.takes s u ≡ Some form → C.bars s u ≡ true
   bars-taken s u as' form e f = subst (λ l. implies (is_some l && true) (C.bars s u) ≡ true) e (subst (λ o. implies (is_some (G.leaves s) && is_some o) (C.bars s u) ≡ true) f (bars-at s u))
 
-  -- no symbol takes what may stand behind it
+  -- no symbol takes what may come after it
   abbrev pub IsApart : List S → Type 0
   IsApart [] = Unit {0}
   IsApart (s ∷ k) = ((u : K) → C.bars s u ≡ true → may G u k ≡ false) × IsApart k
 
-  may-behind : (u : K) (y k : List S) → may G u y ≡ false → (is_optional G y ≡ true → may G u k ≡ false) → may G u (y ++ k) ≡ false
-  may-behind u [] k none behind = behind refl
-  may-behind u (s ∷ y) k none behind = at-symbol (is_some (G.takes s u)) (is_some (G.leaves s)) none behind (λ none behind. may-behind u y k none behind)
+  may-after : (u : K) (y k : List S) → may G u y ≡ false → (is_optional G y ≡ true → may G u k ≡ false) → may G u (y ++ k) ≡ false
+  may-after u [] k none later = later refl
+  may-after u (s ∷ y) k none later = at-symbol (is_some (G.takes s u)) (is_some (G.leaves s)) none later (λ none later. may-after u y k none later)
     where
       at-symbol : (a b : Bool) → a || (b && may G u y) ≡ false → (b && is_optional G y ≡ true → may G u k ≡ false) →
           (may G u y ≡ false → (is_optional G y ≡ true → may G u k ≡ false) → may G u (y ++ k) ≡ false) → a || (b && may G u (y ++ k)) ≡ false
-      at-symbol true b none behind ih = cc
-      at-symbol false false none behind ih = refl
-      at-symbol false true none behind ih = ih none behind
+      at-symbol true b none later ih = cc
+      at-symbol false false none later ih = refl
+      at-symbol false true none later ih = ih none later
 
-  -- what is due behind a token
+  -- what is due after a token
   pub apart-form : (s : S) (form k : List S) → form_fits G C s form ≡ true → ((u : K) → C.bars s u ≡ true → may G u k ≡ false) → IsApart k → IsApart (form ++ k)
-  apart-form s [] k fit behind rest = rest
-  apart-form s (x ∷ y) k fit behind rest =
+  apart-form s [] k fit later rest = rest
+  apart-form s (x ∷ y) k fit later rest =
       let first = and-left (all_of (λ u. implies (C.bars x u) (not (may G u y))) C.kinds) _ fit in
       let others = and-right (all_of (λ u. implies (C.bars x u) (not (may G u y))) C.kinds) _ fit in
       let last = and-left (implies (is_optional G y) (all_of (λ u. implies (C.bars x u) (C.bars s u)) C.kinds)) _ others in
       let more = and-right (implies (is_optional G y) (all_of (λ u. implies (C.bars x u) (C.bars s u)) C.kinds)) _ others in (
-        λ u barred. may-behind u y k (not-true (may G u y) (implied (C.bars x u) _ (each (λ u. implies (C.bars x u) (not (may G u y))) first u) barred))
-            (λ optional. behind u (implied (C.bars x u) _ (each (λ u. implies (C.bars x u) (C.bars s u)) (implied (is_optional G y) _ last optional) u) barred)),
-        apart-form s y k more behind rest,
+        λ u barred. may-after u y k (not-true (may G u y) (implied (C.bars x u) _ (each (λ u. implies (C.bars x u) (not (may G u y))) first u) barred))
+            (λ optional. later u (implied (C.bars x u) _ (each (λ u. implies (C.bars x u) (C.bars s u)) (implied (is_optional G y) _ last optional) u) barred)),
+        apart-form s y k more later rest,
       )
 
   pub apart-start : (start : List S) → starts G C start ≡ true → IsApart start

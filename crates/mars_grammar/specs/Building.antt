@@ -1,5 +1,5 @@
 -- What is made of the events of a text: builders and their limits, two builders side by side, and the faults of a text.
-use Rattle.std.specs.Prelude.{◌≡◌, ℕ, List, [], ◌∷◌, Option, Some, None}
+use Rattle.std.specs.Prelude.{ℕ, List, [], ◌∷◌, Option, Some, None}
 use Rattle.mars_grammar.specs.declared.Which.{Which}
 use Rattle.mars_grammar.specs.declared.Which.TheVariants.{First, Second}
 
@@ -8,6 +8,7 @@ pub record Build (E V L : Type 0) : Type 0 where
   pub perform : E → V → V
   pub refuses : V → Option L
 
+-- what a value becomes by events, one after the other
 abbrev pub performs : {E V L : Type 0} → Build E V L → List E → V → V
 performs B [] v = v
 performs B (e ∷ es) v = performs B es (B.perform e v)
@@ -23,6 +24,7 @@ which (Some l) r = Some (First l)
 which None (Some r) = Some (Second r)
 which None None = None
 
+-- both are told each event
 abbrev pub both : {E V W L R : Type 0} → Build E V L → Build E W R → Build E (V × W) (Which L R)
 both B D = record { perform = λ e v. (B.perform e v.0, D.perform e v.1); refuses = λ v. which (B.refuses v.0) (D.refuses v.1) }
 

@@ -18,14 +18,17 @@ pub data Event (S T A : Type 0) : Type 0 where
   Read : S → T → Event S T A
   Say : A → Event S T A
 
+-- actions as events
 abbrev pub said_events : {S T A : Type 0} → List A → List (Event S T A)
 said_events [] = []
 said_events (a ∷ as') = Say a ∷ said_events as'
 
+-- a value, unless it is barred
 abbrev pub if_not : {A : Type 0} → Bool → Option A → Option A
 if_not true o = None
 if_not false o = o
 
+-- what is told where a symbol is left out in this mode, if it can be
 abbrev pub leaves_in : {S K T A M : Type 0} → FormTable S K T A M → M → S → Option (List A)
 leaves_in G m s = if_not (G.stays m s) (G.leaves s)
 

@@ -34,12 +34,13 @@ module _ {S K T A M V L : Type 0} (G : FormTable S K T A M) (B : Build (Event S 
   IsAt (Syntax left) front rest = IsDead front rest
   IsAt (Over l left) front rest = IsPassed l front rest
 
+-- how many tokens are left where a fault is
 abbrev pub tokens_left : {L : Type 0} → Fault L → ℕ
 tokens_left (Syntax left) = left
 tokens_left (Over l left) = left
 
 module _ {S K T A M V L : Type 0} (G : FormTable S K T A M) (B : Build (Event S T A) V L) (start : List S) (v : V) (tokens : List T) where
-  -- the text has this fault, perhaps behind others
+  -- the text has this fault, perhaps after others
   pub record HasFault (fault : Fault L) : Type 0 where
     pub front : List T
     pub rest : List T

@@ -1,5 +1,5 @@
 -- Tables that are written as data: each symbol with its rows. A row is what its first token must be, and what is due after it.
-use Rattle.std.specs.Prelude.{ℕ, List, [], ◌∷◌, Option, Some, None, Bool, true, false, map, option_map}
+use Rattle.std.specs.Prelude.{List, [], ◌∷◌, Option, Some, None, Bool, true, false, option_map}
 use Rattle.std.specs.Option.{option_copied}
 use Rattle.std.specs.Borrow.{Bor}
 
@@ -46,6 +46,7 @@ abbrev pub leaves_at : {S O A : Type 0} → Option (FormEntry S O A) → Option 
 leaves_at None = None
 leaves_at (Some e) = e.leaves
 
+-- this form where the trigger is the token, else a later one
 abbrev pub form_if : {S : Type 0} → Bool → List S → Option (List S) → Option (List S)
 form_if true form later = Some form
 form_if false form later = later

@@ -27,10 +27,12 @@ pub record Test (S K T M : Type 0) : Type 0 where
   pub way : S → Option T
   pub rank : S → ℕ
 
+-- a test holds of each item
 abbrev pub all_of : {A : Type 0} → (A → Bool) → List A → Bool
 all_of p [] = true
 all_of p (x ∷ xs) = p x && all_of p xs
 
+-- the second holds where the first does
 abbrev pub implies : Bool → Bool → Bool
 implies a b = not a || b
 
@@ -49,6 +51,7 @@ abbrev pub form_fits : {S K T A M : Type 0} → FormTable S K T A M → Test S K
 form_fits G C s [] = true
 form_fits G C s (x ∷ y) = all_of (λ u. implies (C.bars x u) (not (may G u y))) C.kinds && (implies (is_optional G y) (all_of (λ u. implies (C.bars x u) (C.bars s u)) C.kinds) && form_fits G C s y)
 
+-- likewise of a form that there may be
 abbrev pub form_fits_if : {S K T A M : Type 0} → FormTable S K T A M → Test S K T M → S → Option (List S) → Bool
 form_fits_if G C s None = true
 form_fits_if G C s (Some form) = form_fits G C s form
@@ -76,6 +79,7 @@ abbrev pub ends_by : {S K T A M : Type 0} → FormTable S K T A M → Test S K T
 ends_by G C s None = all_of (λ m. is_some (leaves_in G m s)) C.modes
 ends_by G C s (Some t) = lesser_if C (C.rank s) (G.takes s (G.kind t))
 
+-- each symbol ends
 abbrev pub ends_each : {S K T A M : Type 0} → FormTable S K T A M → Test S K T M → Bool
 ends_each G C = all_of (λ s. ends_by G C s (C.way s)) C.symbols
 
@@ -94,6 +98,7 @@ either_kind [] ys = ys
 either_kind (x ∷ xs) [] = x ∷ xs
 either_kind (x ∷ xs) (y ∷ ys) = (x || y) ∷ either_kind xs ys
 
+-- one kind of a set, and a set of a list of sets
 abbrev pub flag_in : Option Bool → Bool
 flag_in None = false
 flag_in (Some b) = b
@@ -107,6 +112,7 @@ abbrev pub last_bars : {S K T A M : Type 0} → FormTable S K T A M → (S → L
 last_bars G barred [] = []
 last_bars G barred (x ∷ y) = either_kind (if is_optional G y then barred x else []) (last_bars G barred y)
 
+-- likewise of a form that there may be, and of all forms of a symbol
 abbrev pub last_bars_if : {S K T A M : Type 0} → FormTable S K T A M → (S → List Bool) → Option (List S) → List Bool
 last_bars_if G barred None = []
 last_bars_if G barred (Some form) = last_bars G barred form
@@ -119,6 +125,7 @@ each_form_bars G barred s (u ∷ us) = either_kind (last_bars_if G barred (G.tak
 abbrev pub own_bars : {S K T A M : Type 0} → FormTable S K T A M → Listing S K T M → S → List Bool
 own_bars G L s = map (λ u. is_some (G.leaves s) && is_some (G.takes s u)) L.kinds
 
+-- the bars of each symbol, by one more round
 abbrev pub bars_more : {S K T A M : Type 0} → FormTable S K T A M → Listing S K T M → List (List Bool) → List (List Bool)
 bars_more G L sets = map (λ s. either_kind (own_bars G L s) (each_form_bars G (λ x. set_in (slice_get sets (L.symbol_place x))) s L.kinds)) L.symbols
 
@@ -134,6 +141,7 @@ pub record Ending (T : Type 0) : Type 0 where
 abbrev pub ending_by : {T : Type 0} → Option T → ℕ → Ending T
 ending_by o n = record { by = o; rank = n }
 
+-- the ending that is known first
 abbrev pub first_ending : {T : Type 0} → Option (Ending T) → Option (Ending T) → Option (Ending T)
 first_ending None later = later
 first_ending (Some e) later = Some e
@@ -142,6 +150,7 @@ abbrev pub known_ending : {T : Type 0} → Option (Option (Ending T)) → Option
 known_ending None = None
 known_ending (Some e) = e
 
+-- each symbol of a form is known to end
 abbrev pub are_known : {S T : Type 0} → (S → Option (Ending T)) → Option (List S) → Bool
 are_known known None = false
 are_known known (Some form) = all_of (λ x. is_some (known x)) form
@@ -151,6 +160,7 @@ abbrev pub ending_form : {S K T A M : Type 0} → FormTable S K T A M → Listin
 ending_form G L known s n [] = None
 ending_form G L known s n (u ∷ us) = if are_known known (G.takes s u) then Some (ending_by (Some (L.sample u)) n) else ending_form G L known s n us
 
+-- how each symbol ends, by one more round: in this round one that is left out in each mode, or has a form of known symbols
 abbrev pub endings_more : {S K T A M : Type 0} → FormTable S K T A M → Listing S K T M → ℕ → List (Option (Ending T)) → List (Option (Ending T))
 endings_more G L n known = map (λ s. first_ending (known_ending (slice_get known (L.symbol_place s)))
     (if all_of (λ m. is_some (leaves_in G m s)) L.modes then Some (ending_by None n) else ending_form G L (λ x. known_ending (slice_get known (L.symbol_place x))) s n L.kinds)) L.symbols
@@ -159,6 +169,7 @@ abbrev pub endings_after : {S K T A M : Type 0} → FormTable S K T A M → List
 endings_after G L zero = []
 endings_after G L (suc n) = endings_more G L n (endings_after G L n)
 
+-- the parts of an ending that may be known
 abbrev pub way_in : {T : Type 0} → Option (Option (Ending T)) → Option T
 way_in None = None
 way_in (Some None) = None
@@ -169,6 +180,7 @@ rank_in None = 0
 rank_in (Some None) = 0
 rank_in (Some (Some e)) = e.rank
 
+-- the test with these bars and endings
 abbrev pub test_with : {S K T M : Type 0} → Listing S K T M → List (List Bool) → List (Option (Ending T)) → Test S K T M
 test_with L sets endings = record {
   symbols = L.symbols;

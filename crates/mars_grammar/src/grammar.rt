@@ -28,7 +28,7 @@ pub trait Grammar {
     /// What a token is.
     fn kind(token: Self::Token) -> Self::Kind
         ensures { result ≡ table.kind token };
-    /// What is due behind a token of this kind, if the symbol takes it.
+    /// What is due after a token of this kind, if the symbol takes it.
     fn takes(symbol: Self::Symbol, kind: Self::Kind) -> Option<&'static [Self::Symbol]>
         ensures { option_copied result ≡ table.takes symbol kind };
     /// What a builder is told where the symbol is left out, if it can be.
@@ -37,7 +37,7 @@ pub trait Grammar {
     /// The mode in which a text begins.
     fn free() -> Self::Mode
         ensures { result ≡ table.free };
-    /// The mode behind a token.
+    /// The mode after a token.
     fn pass(kind: Self::Kind, mode: Self::Mode) -> Self::Mode
         ensures { result ≡ table.pass kind mode };
     /// Whether the symbol can't be left out in this mode.
@@ -48,7 +48,7 @@ pub trait Grammar {
     ghost passes: { Passes table test };
 }
 
-/// What makes something of the tokens that are taken, or counts them.
+/// What makes something of the events of a text.
 pub trait Builder<G: Grammar> {
     /// Why it refuses a text.
     type Limit: Copy + Drop;
