@@ -4,9 +4,7 @@
 
 mod counting;
 mod interning;
-mod sweeping;
 
-use crate::sweeping::Pins;
 use rows::{Stop, answer_rows};
 use std::alloc::Global;
 use std::io;
@@ -16,9 +14,6 @@ fn answer(alloc: Global, word: &str, rest: &str, into: &mut Vec<u8>) -> Result<(
     match word {
         "intern" => interning::answer_intern(alloc, rest, into),
         "counting" => counting::answer_counting(alloc, rest, into),
-        "filling" => sweeping::answer_sweeping(alloc, rest, Pins::Kept, into),
-        "turning" => sweeping::answer_sweeping(alloc, rest, Pins::Dropped, into),
-        "clearing" => sweeping::answer_sweeping(alloc, rest, Pins::Swept, into),
         _ => Err(Stop::NoRow),
     }
 }
