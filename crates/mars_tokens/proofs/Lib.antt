@@ -1,0 +1,11 @@
+pub mod Prefixes
+pub mod Covering
+pub mod Sounding
+pub mod Firsts
+pub mod Reading
+pub mod Unique
+pub mod Existing
+pub mod Versions
+pub mod IntegerForms
+pub mod Numbers
+pub mod Meanings
