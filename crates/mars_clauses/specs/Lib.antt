@@ -1,2 +1,6 @@
--- Promised: the limits of an input, and what it is to be over one.
+-- Promised: the limits of an input, and what rules and asks its events make.
 pub mod Limits
+pub mod Terms
+pub mod Lists
+-- Inside: how the code keeps a rule or an ask that is being read.
+pub mod Made

@@ -10,7 +10,7 @@ use Rattle.mars_forms.specs.declared.symbol.FormSymbol.TheVariants as due
 use Rattle.mars_forms.specs.declared.symbol.FormAction.{FormAction}
 use Rattle.mars_clauses.specs.declared.maker.ValuedToken.{ValuedToken}
 use Rattle.mars_clauses.specs.declared.counts.InputCounts.{InputCounts}
-use Rattle.mars_clauses.specs.declared.counts.TheConstants.{ARITY_LIMIT, RULE_LIMIT, CLAUSE_LIMIT, SESSION_LIMIT, COMMAND_LIMIT, SESSION_COMMAND_LIMIT}
+use Rattle.mars_clauses.specs.declared.counts.TheConstants.{ARITY_LIMIT, RULE_LIMIT, CLAUSE_LIMIT, SESSION_LIMIT, INPUT_COMMAND_LIMIT, SESSION_COMMAND_LIMIT}
 use Rattle.mars_clauses.specs.declared.limits.InputLimit.{InputLimit}
 use Rattle.mars_clauses.specs.declared.limits.InputLimit.TheVariants as limit
 use Rattle.mars_clauses.specs.declared.limits.OverLimit.{OverLimit}
@@ -30,8 +30,8 @@ is_node due.AskTail _ = true
 is_node _ _ = false
 
 -- a name is among these
-abbrev pub is_listed : NameId → List NameId → Bool
-is_listed name names = is_some (position (λ other. other.0 == name.0) names)
+abbrev pub is_session_name : NameId → List NameId → Bool
+is_session_name name names = is_some (position (λ other. other.0 == name.0) names)
 
 -- `eq`, `dif`, `freeze` and `val` have two arguments, `bound`, `free` and `out` one, and in version 2 `outm` too; a built-in name's number is its place
 abbrev pub is_built_in : Bool → NameId → ℕ → Bool
@@ -44,7 +44,7 @@ abbrev pub over_if : Bool → InputLimit → ℕ → Option OverLimit
 over_if true l start = Some (record { limit = l; start = start })
 over_if false l start = None
 
--- The limit that a token passes which a symbol takes, by what was counted before it. A head is judged where its arguments end, and its name is the place.
+-- The limit that a token passes which a symbol takes, by what was counted before it. A head is with_over where its arguments end, and its name is the place.
 abbrev pub passed : FormSymbol → ValuedToken → InputCounts → Option OverLimit
 passed due.HeadRow t c = over_if (nat_le ARITY_LIMIT c.arguments) limit.Arity t.start
 passed due.Row t c = over_if (nat_le ARITY_LIMIT c.arguments) limit.Arity t.start
@@ -54,8 +54,8 @@ passed due.RuleList t c = over_if (nat_le RULE_LIMIT c.rules) limit.Rules t.star
 passed due.HeadClose t c = over_if (is_built_in c.two c.head.name c.arguments) limit.BuiltIn c.head.start
 passed due.AskLimit t c = over_if (int_lt t.number (pos 0)) limit.Literal t.start
 passed due.Sessions t c = over_if (nat_le SESSION_LIMIT (length c.sessions)) limit.Sessions t.start
-passed due.OneName t c = over_if (c.begun && is_listed t.name c.sessions) limit.Twice t.start
-passed due.Commands t c = over_if (nat_le SESSION_COMMAND_LIMIT c.own_commands || nat_le COMMAND_LIMIT c.commands) limit.Commands t.start
+passed due.OneName t c = over_if (c.begun && is_session_name t.name c.sessions) limit.Twice t.start
+passed due.Commands t c = over_if (nat_le SESSION_COMMAND_LIMIT c.own_commands || nat_le INPUT_COMMAND_LIMIT c.commands) limit.Commands t.start
 passed s t c = over_if (is_node s t.kind && nat_le CLAUSE_LIMIT c.nodes) limit.Clause t.start
 
 -- version 2 has a first word of its own
@@ -78,21 +78,21 @@ within [] c = record c { arguments = 0; outer = [] }
 within (arguments ∷ outer) c = record c { arguments = arguments; outer = reverse outer }
 
 -- what is counted of the arguments in open brackets after a token
-abbrev pub bracketed : TokenKind → InputCounts → InputCounts
-bracketed kind.Open c = record c { arguments = 1; outer = c.outer ++ c.arguments ∷ [] }
-bracketed kind.Less c = record c { arguments = 1; outer = c.outer ++ c.arguments ∷ [] }
-bracketed kind.Comma c = record c { arguments = c.arguments + 1 }
-bracketed kind.Close c = within (reverse c.outer) c
-bracketed kind.Greater c = within (reverse c.outer) c
-bracketed _ c = c
+abbrev pub in_brackets : TokenKind → InputCounts → InputCounts
+in_brackets kind.Open c = record c { arguments = 1; outer = c.outer ++ c.arguments ∷ [] }
+in_brackets kind.Less c = record c { arguments = 1; outer = c.outer ++ c.arguments ∷ [] }
+in_brackets kind.Comma c = record c { arguments = c.arguments + 1 }
+in_brackets kind.Close c = within (reverse c.outer) c
+in_brackets kind.Greater c = within (reverse c.outer) c
+in_brackets _ c = c
 
 -- with what a token is over
-abbrev pub judged : Option OverLimit → InputCounts → InputCounts
-judged over c = record c { over = over }
+abbrev pub with_over : Option OverLimit → InputCounts → InputCounts
+with_over over c = record c { over = over }
 
 -- what is counted after an event
 abbrev pub count_event : Event FormSymbol ValuedToken FormAction → InputCounts → InputCounts
-count_event (Read s t) c = bracketed t.kind (counted s t (judged (passed s t c) c))
+count_event (Read s t) c = in_brackets t.kind (counted s t (with_over (passed s t c) c))
 count_event (Say a) c = c
 
 -- Counting, and the limit that the last token passes.

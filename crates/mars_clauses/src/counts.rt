@@ -19,7 +19,7 @@ pub const CLAUSE_LIMIT: u32 = 1024;
 /// The most sessions of an input.
 pub const SESSION_LIMIT: u32 = 32;
 /// The most commands of an input.
-pub const COMMAND_LIMIT: u32 = 2048;
+pub const INPUT_COMMAND_LIMIT: u32 = 2048;
 /// The most commands of a session.
 pub const SESSION_COMMAND_LIMIT: u32 = 256;
 
@@ -73,8 +73,8 @@ fn is_node(symbol: FormSymbol, kind: TokenKind) -> bool
 }
 
 /// Whether a name is among these.
-fn is_listed(names: &[NameId], name: NameId) -> bool
-    ensures { result ≡ told.is_listed name names.now }
+fn is_session_name(names: &[NameId], name: NameId) -> bool
+    ensures { result ≡ told.is_session_name name names.now }
 {
     names.iter().position(|other| other.0 == name.0).is_some()
 }
@@ -147,12 +147,12 @@ impl InputCounts {
                 )
             }
             FormSymbol::OneName => over_if(
-                self.begun && is_listed(self.sessions.as_slice(), token.name),
+                self.begun && is_session_name(self.sessions.as_slice(), token.name),
                 InputLimit::Twice,
                 start,
             ),
             FormSymbol::Commands => over_if(
-                self.own_commands >= SESSION_COMMAND_LIMIT || self.commands >= COMMAND_LIMIT,
+                self.own_commands >= SESSION_COMMAND_LIMIT || self.commands >= INPUT_COMMAND_LIMIT,
                 InputLimit::Commands,
                 start,
             ),
@@ -201,7 +201,7 @@ impl InputCounts {
 
     /// Counts the arguments in brackets.
     fn bracket(&mut self, kind: TokenKind) -> Result<(), NoMemory>
-        ensures { OnOk result (self.new ≡ told.bracketed kind self.old) }
+        ensures { OnOk result (self.new ≡ told.in_brackets kind self.old) }
     {
         match kind {
             TokenKind::Open | TokenKind::Less => {

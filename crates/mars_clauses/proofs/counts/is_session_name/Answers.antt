@@ -2,7 +2,7 @@ use Rattle.std.proofs.Common.{◌∙◌, ap, rules, tests, ◌==◌, is_some, po
 use Rattle.std.proofs.lemmas.Iterator.{YieldsList-from_slice}
 use Rattle.std.proofs.lemmas.Iterator.Search.{position_from_yields_List}
 use Rattle.mars_tree.specs.declared.label.NameId.{NameId}
-use Rattle.mars_clauses.proofs.counts.is_listed.Goals as goal
+use Rattle.mars_clauses.proofs.counts.is_session_name.Goals as goal
 
 pub returns : goal.returns
 returns c =
