@@ -2,5 +2,7 @@
 pub mod Limits
 pub mod Terms
 pub mod Lists
+-- Laws: what is made is well formed.
+pub mod WellFormed
 -- Inside: how the code keeps a rule or an ask that is being read.
 pub mod Made

@@ -24,8 +24,8 @@ abbrev pub number_of : NameId → List NameId → ℕ
 number_of name vars = position_or_len (λ var. name.0 == var.0) vars
 
 -- the variables with this one, which goes last where it is new
-abbrev pub known_with : NameId → List NameId → List NameId
-known_with name vars = if list_any (λ var. name.0 == var.0) vars then vars else vars ++ name ∷ []
+abbrev pub vars_with : NameId → List NameId → List NameId
+vars_with name vars = if list_any (λ var. name.0 == var.0) vars then vars else vars ++ name ∷ []
 
 -- A rule or an ask that is being read. The innermost open name or tuple comes first; a term that is in none is a goal.
 pub record Unfinished : Type 0 where
@@ -58,8 +58,8 @@ abbrev pub given : Term → Unfinished → Unfinished
 given term c = given_in c.rows term c
 
 -- a name or a tuple begins
-abbrev pub opened : Option NameId → Unfinished → Unfinished
-opened opening c = record c { rows = open_term opening [] ∷ c.rows }
+abbrev pub with_open : Option NameId → Unfinished → Unfinished
+with_open opening c = record c { rows = open_term opening [] ∷ c.rows }
 
 -- the term of a name or a tuple whose arguments are whole
 abbrev pub term_made : Option NameId → List Term → Term
@@ -70,16 +70,16 @@ abbrev pub applied_in : List OpenTerm → Unfinished → Unfinished
 applied_in [] c = c
 applied_in (row ∷ outer) c = given (term_made row.opening row.terms) (record c { rows = outer })
 
-abbrev pub applied : Unfinished → Unfinished
-applied c = applied_in c.rows c
+abbrev pub with_applied : Unfinished → Unfinished
+with_applied c = applied_in c.rows c
 
 -- the last two of these terms, which are listed backwards, as a dot
-abbrev pub joined : List Term → List Term
-joined (right ∷ left ∷ terms) = Dot left right ∷ terms
-joined terms = terms
+abbrev pub joined_dot : List Term → List Term
+joined_dot (right ∷ left ∷ terms) = Dot left right ∷ terms
+joined_dot terms = terms
 
 abbrev pub paired : List Term → List Term
-paired terms = reverse (joined (reverse terms))
+paired terms = reverse (joined_dot (reverse terms))
 
 -- both sides of a dot are whole
 abbrev pub paired_in : List OpenTerm → Unfinished → Unfinished
@@ -96,8 +96,8 @@ headed_in [] c = c
 headed_in (row ∷ outer) c = record c { head = head_made row.opening row.terms; rows = outer }
 
 -- a variable, by its number among those of this rule or ask
-abbrev pub with_variable : NameId → Unfinished → Unfinished
-with_variable name c = given (Var (number_of name c.vars)) (record c { vars = known_with name c.vars })
+abbrev pub with_var : NameId → Unfinished → Unfinished
+with_var name c = given (Var (number_of name c.vars)) (record c { vars = vars_with name c.vars })
 
 -- a kept name has the next number; a rule has none
 abbrev pub with_kept : NameId → Unfinished → Unfinished
@@ -109,14 +109,14 @@ with_cut c = record c { goals = c.goals ++ Cut ∷ [] }
 
 -- A token of a goal or a term. Round brackets say nothing, and `#` is said by the name after it; every other word is a name.
 abbrev pub with_part : TokenKind → ValuedToken → Unfinished → Unfinished
-with_part kind.Variable t c = with_variable t.name c
+with_part kind.Variable t c = with_var t.name c
 with_part kind.Integer t c = given (Int t.number) c
 with_part kind.Text t c = given (Str t.name) c
-with_part kind.Less t c = opened None c
+with_part kind.Less t c = with_open None c
 with_part kind.Slash t c = with_cut c
 with_part kind.Open t c = c
 with_part kind.Hash t c = c
-with_part _ t c = opened (Some t.name) c
+with_part _ t c = with_open (Some t.name) c
 
 -- an integer as a number of answers, 0 where it is negative
 abbrev pub amount : ℤ → ℕ
@@ -142,8 +142,8 @@ clause_read _ t c = c
 
 -- likewise after an action
 abbrev pub clause_said : FormAction → Unfinished → Unfinished
-clause_said action.Apply c = applied c
-clause_said action.Call c = applied c
+clause_said action.Apply c = with_applied c
+clause_said action.Call c = with_applied c
 clause_said action.Pair c = paired_in c.rows c
 clause_said action.Head c = if c.asking then c else headed_in c.rows c
 clause_said action.Define c = c

@@ -3,6 +3,7 @@
 
 mod both;
 mod counts;
+mod laws;
 mod limits;
 mod lists;
 mod maker;
@@ -14,6 +15,7 @@ pub use counts::{
     ARITY_LIMIT, CLAUSE_LIMIT, INPUT_COMMAND_LIMIT, InputCounts, RULE_LIMIT, SESSION_COMMAND_LIMIT,
     SESSION_LIMIT,
 };
+pub use laws::clauses_are_well_formed;
 pub use limits::{InputLimit, OverLimit};
 pub use lists::ClauseLists;
 pub use maker::{Maker, ValuedToken};

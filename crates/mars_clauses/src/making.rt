@@ -78,7 +78,7 @@ impl ClauseMaking {
 
     /// A name or a tuple begins.
     fn open(&mut self, opening: Option<NameId>) -> Result<(), NoMemory>
-        ensures { OnOk result (clause_of self.new ≡ told.opened opening (clause_of self.old)) }
+        ensures { OnOk result (clause_of self.new ≡ told.with_open opening (clause_of self.old)) }
     {
         let terms = Items::new(self.alloc);
         self.rows.push(OpenTerm { opening, terms })?;
@@ -87,7 +87,7 @@ impl ClauseMaking {
 
     /// The arguments of a name or a tuple are whole.
     fn apply(&mut self) -> Result<(), NoMemory>
-        ensures { OnOk result (clause_of self.new ≡ told.applied (clause_of self.old)) }
+        ensures { OnOk result (clause_of self.new ≡ told.with_applied (clause_of self.old)) }
     {
         match self.rows.pop() {
             Some(row) => self.give(term_made(row.opening, row.terms)),
@@ -118,7 +118,7 @@ impl ClauseMaking {
 
     /// A variable.
     fn variable(&mut self, name: NameId) -> Result<(), NoMemory>
-        ensures { OnOk result (clause_of self.new ≡ told.with_variable name (clause_of self.old)) }
+        ensures { OnOk result (clause_of self.new ≡ told.with_var name (clause_of self.old)) }
     {
         let number = self.vars.number(name)?;
         self.give(Term::Var(number))

@@ -1,6 +1,6 @@
 //! The variables of one rule or ask, numbered by first appearance.
 ghost use Rattle.std.specs.Prelude.{◌≡◌, [], length, IfOk, OnOk};
-ghost use Rattle.mars_clauses.specs.Terms.{number_of, known_with};
+ghost use Rattle.mars_clauses.specs.Terms.{number_of, vars_with};
 
 use indexmap::IndexSet;
 use mars_base::NoMemory;
@@ -48,7 +48,7 @@ impl VariableList {
     /// The number of a variable, which goes last where it is new. Constant time.
     pub fn number(&mut self, name: NameId) -> Result<u32, NoMemory>
         ensures number { IfOk result (λ number. number ≡ number_of name self.old) }
-        ensures known { OnOk result (self.new ≡ known_with name self.old) }
+        ensures known { OnOk result (self.new ≡ vars_with name self.old) }
     {
         let (place, _) = self.names.insert_full(name)?;
         short(place)

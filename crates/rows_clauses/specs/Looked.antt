@@ -22,5 +22,5 @@ abbrev pub looked_event : {V L : Type 0} → Build (Event FormSymbol ValuedToken
 looked_event B (Read s t) v = (v.0, B.perform (Read s (meaning_at v.0 t.start)) v.1)
 looked_event B (Say a) v = (v.0, B.perform (Say a) v.1)
 
-abbrev pub looked : {V L : Type 0} → Build (Event FormSymbol ValuedToken FormAction) V L → Build (Event FormSymbol Lexeme FormAction) (List ValuedToken × V) L
-looked B = record { perform = looked_event B; refuses = λ v. B.refuses v.1 }
+abbrev pub looked_up : {V L : Type 0} → Build (Event FormSymbol ValuedToken FormAction) V L → Build (Event FormSymbol Lexeme FormAction) (List ValuedToken × V) L
+looked_up B = record { perform = looked_event B; refuses = λ v. B.refuses v.1 }

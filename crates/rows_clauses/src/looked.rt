@@ -1,7 +1,7 @@
 //! A maker that is told the events of a text whose tokens' meanings are in a list.
 ghost use Rattle.std.specs.Prelude.{◌≡◌};
 ghost use Rattle.mars_clauses.specs.declared.maker.ValuedToken.{ValuedToken};
-ghost use Rattle.rows_clauses.specs.Looked.{looked, meaning_at};
+ghost use Rattle.rows_clauses.specs.Looked.{looked_up, meaning_at};
 
 use mars_base::NoMemory;
 use mars_clauses::{Maker, ValuedToken};
@@ -11,8 +11,8 @@ use mars_tree::NameId;
 
 /// A maker, and the meanings of the tokens of its text. A token's start is its place in that list.
 #[derive(Drop)]
-pub struct Looked<M> {
-    pub meanings: Vec<ValuedToken>,
+pub struct Looked<'a, M> {
+    pub meanings: &'a [ValuedToken],
     pub maker: M,
 }
 
@@ -31,19 +31,19 @@ fn meaning_at(meanings: &[ValuedToken], place: u32) -> ValuedToken
     }
 }
 
-impl<const TWO: bool, M: Maker> Builder<Forms<TWO>> for Looked<M> {
+impl<'a, const TWO: bool, M: Maker> Builder<Forms<TWO>> for Looked<'a, M> {
     type Limit = M::Limit;
 
     ghost use Rattle.std.specs.Prelude.{List};
 
     ghost Value = { List ValuedToken × M.Value };
 
-    ghost view = { λ s. (s.meanings.items, M.view s.maker) };
+    ghost view = { λ s. (s.meanings.now, M.view s.maker) };
 
-    ghost build = { looked M.build };
+    ghost build = { looked_up M.build };
 
     fn read(&mut self, symbol: FormSymbol, token: Lexeme) -> Result<(), NoMemory> {
-        let meaning = meaning_at(&self.meanings, token.start);
+        let meaning = meaning_at(self.meanings, token.start);
         self.maker.read(symbol, meaning)
     }
 

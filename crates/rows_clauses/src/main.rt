@@ -18,9 +18,6 @@ use std::io::Write;
 use tokens::{RowTokens, read_tokens};
 use written::{put_ask, put_rule};
 
-/// What is told of a text: its counts, and its rules and asks.
-type Told = Looked<Both<InputCounts, ClauseLists>>;
-
 fn main(rt: HostRuntime) -> io::Result<()> {
     for line in rt.lines(rt.alloc()) {
         let line = line?;
@@ -50,29 +47,34 @@ fn push_answer(
     if word != "one" && word != "two" && word != "tree" && word != "goals" {
         return Ok(());
     }
-    let RowTokens {
-        lexemes,
-        meanings,
-        names,
-    } = read_tokens(alloc, rest)?;
-    let asking = word == "goals";
+    into.extend_from_slice(b"  -->")?;
+    let row = read_tokens(alloc, rest)?;
+    put_answer(alloc, word, &row, into)
+}
+
+/// Appends what the tokens of a row tell.
+fn put_answer(
+    alloc: Global,
+    word: &str,
+    row: &RowTokens,
+    into: &mut Vec<u8>,
+) -> Result<(), AllocError> {
     let mut told = Looked {
-        meanings,
+        meanings: &row.meanings,
         maker: Both {
             first: InputCounts::new(alloc, word != "one"),
-            second: ClauseLists::new(alloc, asking),
+            second: ClauseLists::new(alloc, word == "goals"),
         },
     };
     let outcome = match word {
-        "one" => parse_input_one(alloc, &lexemes, &mut told),
-        "two" => parse_input_two(alloc, &lexemes, &mut told),
-        "tree" => parse_tree(alloc, &lexemes, &mut told),
-        _ => parse_goals(alloc, &lexemes, &mut told),
+        "one" => parse_input_one(alloc, &row.lexemes, &mut told),
+        "two" => parse_input_two(alloc, &row.lexemes, &mut told),
+        "tree" => parse_tree(alloc, &row.lexemes, &mut told),
+        _ => parse_goals(alloc, &row.lexemes, &mut told),
     };
-    into.extend_from_slice(b"  -->")?;
     match outcome {
-        Ok(()) => put_told(alloc, &names, told, into),
-        Err(refusal) => put_refusal(alloc, refusal, lexemes.len(), into),
+        Ok(()) => put_told(alloc, &row.names, &mut told.maker.second, into),
+        Err(refusal) => put_refusal(alloc, refusal, row.lexemes.len(), into),
     }
 }
 
@@ -80,25 +82,18 @@ fn push_answer(
 fn put_told(
     alloc: Global,
     names: &Names,
-    told: Told,
+    told: &mut ClauseLists,
     into: &mut Vec<u8>,
 ) -> Result<(), AllocError> {
-    let Looked { maker, .. } = told;
-    let Both { second, .. } = maker;
-    let ClauseLists {
-        mut making,
-        rules,
-        asks,
-    } = second;
-    for rule in rules.as_slice() {
+    for rule in told.rules.as_slice() {
         let mut text = Vec::new(alloc);
         put_rule(alloc, names, rule, &mut text)?;
         put_short(&text, into)?;
     }
-    for ask in asks.as_slice() {
+    for ask in told.asks.as_slice() {
         put_ask_short(alloc, names, ask, into)?;
     }
-    match making.finish() {
+    match told.making.finish() {
         Ok(FinishedClause::Ask(ask)) => put_ask_short(alloc, names, &ask, into),
         Ok(_) => Ok(()),
         Err(_) => Err(AllocError),

@@ -19,19 +19,25 @@ pub fn read_tokens(alloc: Global, text: &str) -> Result<RowTokens, AllocError> {
         meanings: Vec::new(alloc),
         names: Names::new(alloc),
     };
+    push_words(&mut row, text)?;
+    Ok(row)
+}
+
+/// One token for each word of a text.
+fn push_words(row: &mut RowTokens, text: &str) -> Result<(), AllocError> {
     let mut from = 0;
     let mut times = 1;
     for word in text.split_whitespace() {
         if word == "}" {
-            repeat(&mut row, from, times)?;
+            repeat(row, from, times)?;
         } else if let Some(count) = word.strip_prefix("{") {
             from = row.meanings.len();
             times = count.parse::<u32>().unwrap_or(1);
         } else {
-            push_word(&mut row, word)?;
+            push_word(row, word)?;
         }
     }
-    Ok(row)
+    Ok(())
 }
 
 /// The tokens from a place on, so many times in all.
