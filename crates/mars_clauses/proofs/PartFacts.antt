@@ -1,10 +1,11 @@
 -- Parts of terms whose numbers are known and whose lists are short.
-use Rattle.std.proofs.Common.{◌≡◌, ◌≤◌, ◌<◌, ◌+◌, ◌^◌, ℕ, max, List, [], ◌∷◌, ◌++◌, length, refl, ap, sym, ◌∙◌, subst, arith, append_assoc, append-nil, All}
+use Rattle.std.proofs.Common.{◌≡◌, ◌≤◌, ◌<◌, ◌+◌, ◌^◌, ℕ, ℤ, max, List, [], ◌∷◌, ◌++◌, length, refl, ap, sym, subst, arith, All}
 use Rattle.std.specs.List.{flat_map, AllByRecursion}
-use Rattle.std.proofs.lemmas.Grind.{flat_map-append}
 use Rattle.std.proofs.lemmas.List.Elements.{All-from_recursion}
-use Rattle.mars_term.specs.declared.term.Term.{Term, Var, Int, Name, Name', Tup, Tup', Dot, Dot', Kept, Str}
-use Rattle.mars_term.specs.Parts.{parts_of, vars_of, kept_of, number_of_var, number_of_kept, list_of, HasShortList}
+use Rattle.mars_tree.specs.declared.label.NameId.{NameId}
+use Rattle.mars_term.specs.declared.term.Term.{Term, Var, Int, Name, Tup, Dot, Kept, Str}
+use Rattle.mars_term.specs.declared.term.Term.TheViews.{outs-Var, outs-Int, outs-Name, outs-Tup, outs-Dot, outs-Kept, outs-Str}
+use Rattle.mars_term.specs.Parts.{vars_of, kept_of, number_of_var, number_of_kept, list_of, HasShortList}
 use Rattle.mars_term.specs.Clauses.{NumberedByAppearance}
 
 module _ {X : Type 0} (P : X → Type 0) where
@@ -60,22 +61,28 @@ pub numbered-push : (next total : ℕ) (ns : List ℕ) (n : ℕ) → NumberedByA
 numbered-push next total [] n e l = (subst (λ (t : ℕ). n ≤ t) (sym e) l, ap (λ (t : ℕ). max t (n + 1)) e)
 numbered-push next total (m ∷ ns) n numbered l = (numbered.0, numbered-push (max next (m + 1)) total ns n numbered.1 l)
 
--- names, tuples and dots have no number of their own
-pub name-no_var : (name : _) (terms : List Term) → number_of_var (Name name terms) ≡ []
-name-no_var name terms = refl
-pub name-no_kept : (name : _) (terms : List Term) → number_of_kept (Name name terms) ≡ []
-name-no_kept name terms = refl
-pub name-list : (name : _) (terms : List Term) → list_of (Name name terms) ≡ terms
-name-list name terms = refl
-pub tuple-no_var : (terms : List Term) → number_of_var (Tup terms) ≡ []
-tuple-no_var terms = refl
-pub tuple-no_kept : (terms : List Term) → number_of_kept (Tup terms) ≡ []
-tuple-no_kept terms = refl
+-- the list of each kind of term
+pub var-list : (n : ℕ) → list_of (Var n) ≡ []
+var-list n = rw (outs-Var n, list_of) refl
+
+pub int-list : (z : ℤ) → list_of (Int z) ≡ []
+int-list z = rw (outs-Int z, list_of) refl
+
+pub kept-list : (n : ℕ) → list_of (Kept n) ≡ []
+kept-list n = rw (outs-Kept n, list_of) refl
+
+pub text-list : (name : NameId) → list_of (Str name) ≡ []
+text-list name = rw (outs-Str name, list_of) refl
+
+pub name-list : (name : NameId) (terms : List Term) → list_of (Name name terms) ≡ terms
+name-list name terms = rw (outs-Name name terms, list_of) refl
+
 pub tuple-list : (terms : List Term) → list_of (Tup terms) ≡ terms
-tuple-list terms = refl
-pub dot-no_var : (left right : Term) → number_of_var (Dot left right) ≡ []
-dot-no_var left right = refl
-pub dot-no_kept : (left right : Term) → number_of_kept (Dot left right) ≡ []
-dot-no_kept left right = refl
+tuple-list terms = rw (outs-Tup terms, list_of) refl
+
 pub dot-list : (left right : Term) → list_of (Dot left right) ≡ []
-dot-list left right = refl
+dot-list left right = rw (outs-Dot left right, list_of) refl
+
+-- a list that is short
+pub short-of : (part : Term) (list : List Term) (most : ℕ) → list_of part ≡ list → length list ≤ most → length (list_of part) ≤ most
+short-of part list most e l = subst (λ (xs : List Term). length xs ≤ most) (sym e) l

@@ -1,10 +1,11 @@
 -- Variables that are known, and one more.
-use Rattle.std.proofs.Common.{◌≡◌, ◌<◌, ◌+◌, ℕ, zero, suc, List, [], ◌∷◌, ◌++◌, length, refl, ap, sym, ◌∙◌, subst, arith, Bool, true, false, cond, not, Some, slice_get, ◌==◌, tests}
+use Rattle.std.proofs.Common.{◌≡◌, ◌<◌, ℕ, zero, suc, List, [], ◌∷◌, ◌++◌, length, refl, ap, sym, ◌∙◌, arith, Bool, true, false, Some, slice_get, ◌==◌, inl, inr}
+use Rattle.std.proofs.lemmas.Bool.Decides.{nat_tests}
 use Rattle.std.specs.List.{list_any, position_or_len}
 use Rattle.mars_base.specs.Lists.{AreDistinct}
 use Rattle.mars_base.proofs.ListFacts.{get-push}
 use Rattle.mars_tree.specs.declared.label.NameId.{NameId}
-use Rattle.mars_clauses.specs.Terms.{number_of, vars_with}
+use Rattle.mars_clauses.specs.Terms.{number_of}
 
 module _ {X : Type 0} (p : X → Bool) where
   below-by : (x : X) (xs : List X) (b : Bool) → p x ≡ b → (list_any p xs ≡ true → position_or_len p xs < length xs) → list_any p (x ∷ xs) ≡ true → position_or_len p (x ∷ xs) < length (x ∷ xs)
@@ -17,7 +18,7 @@ module _ {X : Type 0} (p : X → Bool) where
 
   last-by : (x : X) (xs : List X) (b : Bool) → p x ≡ b → (list_any p xs ≡ false → position_or_len p xs ≡ length xs) → list_any p (x ∷ xs) ≡ false → position_or_len p (x ∷ xs) ≡ length (x ∷ xs)
   last-by x xs true e later any = let k = rw e at any in cc
-  last-by x xs false e later any = let l = later (rw e at any) in rw e (ap (λ (n : ℕ). n + 1) l)
+  last-by x xs false e later any = let l = later (rw e at any) in rw e (omega arith)
 
   pub none-last : (xs : List X) → list_any p xs ≡ false → position_or_len p xs ≡ length xs
   none-last [] any = refl
@@ -39,7 +40,7 @@ pub unknown-last : (name : NameId) (vars : List NameId) → list_any (λ var. na
 unknown-last name vars any = none-last (λ (var : NameId). name.0 == var.0) vars any
 
 itself : (name : NameId) → (name.0 == name.0) ≡ true
-itself name = search tests
+itself name = grind (arith, nat_tests)
 
 -- a name that isn't among the variables isn't at any place
 not-there : (name : NameId) (vars : List NameId) (i : ℕ) → list_any (λ var. name.0 == var.0) vars ≡ false → slice_get vars i ≡ Some name → ⊥

@@ -1,8 +1,8 @@
 -- The rules and asks that events make are well formed: what holds of a rule or an ask that is being read is kept by each event.
-use Rattle.std.proofs.Common.{◌≡◌, ◌≤◌, ◌<◌, ◌+◌, ◌^◌, ℕ, max, List, [], ◌∷◌, ◌++◌, length, reverse, refl, ap, sym, ◌∙◌, subst, arith, append_assoc, append-nil, All, Option, Some, None, Bool, true, false, if◌then◌else◌, ◌==◌}
+use Rattle.std.proofs.Common.{◌≡◌, ◌≤◌, ◌<◌, ◌+◌, ◌^◌, ℕ, ℤ, max, List, [], ◌∷◌, ◌++◌, length, reverse, refl, ap, sym, ◌∙◌, subst, arith, append_assoc, append-nil, Option, Some, None, Bool, true, false, if◌then◌else◌, ◌==◌}
 use Rattle.std.specs.List.{flat_map, AllByRecursion, list_any}
 use Rattle.std.proofs.lemmas.Grind.{flat_map-append}
-use Rattle.std.proofs.lemmas.List.{reverse-append, reverse-reverse, length_push}
+use Rattle.std.proofs.lemmas.List.{reverse-append, reverse-reverse, length_push, length-reverse}
 use Rattle.std.proofs.lemmas.List.Elements.{All-from_recursion}
 use Rattle.mars_base.specs.Lists.{AreDistinct}
 use Rattle.mars_grammar.specs.FormTable.{Event, Read, Say}
@@ -12,7 +12,7 @@ use Rattle.mars_term.specs.declared.term.Term.{Term, Var, Int, Name, Tup, Dot, K
 use Rattle.mars_term.specs.declared.clause.Goal.{Goal}
 use Rattle.mars_term.specs.declared.clause.Goal.TheVariants.{Call, Cut}
 use Rattle.mars_term.specs.declared.clause.Ask.{Ask}
-use Rattle.mars_term.specs.Parts.{parts_of, vars_of, kept_of, number_of_var, number_of_kept, list_of}
+use Rattle.mars_term.specs.Parts.{parts_of, vars_of, kept_of, number_of_var}
 use Rattle.mars_term.specs.Clauses.{NumberedByAppearance, parts_of_goal, parts_of_goals, parts_of_rule, IsNameTerm, IsRule, IsAsk}
 use Rattle.mars_term.proofs.PartLemmas.{parts-Name, parts-Tup, parts-Dot}
 use Rattle.mars_forms.specs.declared.lexeme.TokenKind.{TokenKind}
@@ -25,10 +25,10 @@ use Rattle.mars_clauses.specs.declared.maker.ValuedToken.{ValuedToken}
 use Rattle.mars_clauses.specs.declared.terms.OpenTerm.{OpenTerm}
 use Rattle.mars_clauses.specs.declared.making.FinishedClause.{FinishedClause}
 use Rattle.mars_clauses.specs.declared.making.FinishedClause.TheVariants as finished_clause
-use Rattle.mars_clauses.specs.Terms.{Unfinished, number_of, vars_with, open_term, begun, with_argument, given_in, with_open, term_made, applied_in, joined_dot, paired_in, head_made, headed_in, with_var, with_kept, with_cut, with_part, amount, is_ask_word, clause_read, clause_said, clause_event, rule_made, ask_made, finished, finished_in, finished_by}
+use Rattle.mars_clauses.specs.Terms.{Unfinished, number_of, vars_with, open_term, begun, with_argument, given_in, with_open, term_made, applied_in, joined_dot, paired_in, head_made, headed_in, with_var, with_kept, with_cut, with_part, is_ask_word, clause_read, clause_said, rule_made, ask_made, finished, finished_in, finished_by}
 use Rattle.mars_clauses.specs.Lists.{Clauses, clauses, clauses_from, stored, clauses_event}
 use Rattle.mars_clauses.specs.WellFormed.{MakesWellFormed, AreWellFormed}
-use Rattle.mars_clauses.proofs.PartFacts.{IsFine, fine-more, all-append, all-front, all-back, all-more, vars-known, kept-known, none-below, short-lists, numbered-push}
+use Rattle.mars_clauses.proofs.PartFacts.{IsFine, fine-more, all-append, all-front, all-back, all-more, vars-known, kept-known, none-below, short-lists, numbered-push, short-of, var-list, int-list, kept-list, text-list, name-list, tuple-list, dot-list}
 use Rattle.mars_clauses.proofs.VarFacts.{known-below, unknown-last, distinct-var}
 
 -- the parts of open names and tuples, and of goals before them, in the order of writing
@@ -147,13 +147,13 @@ cut-keeps n c k = let more = raised n c k in record {
 }
 
 -- an integer or a string
-int-keeps : (n : ℕ) (c : Unfinished) (z : _) → Keeps n c → Keeps (n + 1) (given_in c.rows (Int z) c)
+int-keeps : (n : ℕ) (c : Unfinished) (z : ℤ) → Keeps n c → Keeps (n + 1) (given_in c.rows (Int z) c)
 int-keeps n c z k = given-keeps n c.asking c.most c.vars c.kept c.head c.goals c.rows (Int z)
-    (facts-push n c.asking c.vars c.kept (parts_with c.goals c.rows) (Int z) k.facts (record { vars_known = tt; kept_known = tt; short = omega arith }) refl) k.rows (head-raised n (length c.vars) (length c.vars) c.head (omega arith) k.head)
+    (facts-push n c.asking c.vars c.kept (parts_with c.goals c.rows) (Int z) k.facts (record { vars_known = tt; kept_known = tt; short = short-of (Int z) [] (n + 1) (int-list z) (omega arith) }) refl) k.rows (head-raised n (length c.vars) (length c.vars) c.head (omega arith) k.head)
 
 text-keeps : (n : ℕ) (c : Unfinished) (name : NameId) → Keeps n c → Keeps (n + 1) (given_in c.rows (Str name) c)
 text-keeps n c name k = given-keeps n c.asking c.most c.vars c.kept c.head c.goals c.rows (Str name)
-    (facts-push n c.asking c.vars c.kept (parts_with c.goals c.rows) (Str name) k.facts (record { vars_known = tt; kept_known = tt; short = omega arith }) refl) k.rows (head-raised n (length c.vars) (length c.vars) c.head (omega arith) k.head)
+    (facts-push n c.asking c.vars c.kept (parts_with c.goals c.rows) (Str name) k.facts (record { vars_known = tt; kept_known = tt; short = short-of (Str name) [] (n + 1) (text-list name) (omega arith) }) refl) k.rows (head-raised n (length c.vars) (length c.vars) c.head (omega arith) k.head)
 
 -- a name or a tuple whose arguments are whole
 made-parts : (opening : Option NameId) (terms : List Term) → parts_of (term_made opening terms) ≡ term_made opening terms ∷ flat_map parts_of terms
@@ -165,8 +165,8 @@ made-no_var (Some name) terms = refl
 made-no_var None terms = refl
 
 made-fine : (vars kept most : ℕ) (opening : Option NameId) (terms : List Term) → length terms ≤ most → IsFine vars kept most (term_made opening terms)
-made-fine vars kept most (Some name) terms l = record { vars_known = tt; kept_known = tt; short = l }
-made-fine vars kept most None terms l = record { vars_known = tt; kept_known = tt; short = l }
+made-fine vars kept most (Some name) terms l = record { vars_known = tt; kept_known = tt; short = short-of (Name name terms) terms most (name-list name terms) l }
+made-fine vars kept most None terms l = record { vars_known = tt; kept_known = tt; short = short-of (Tup terms) terms most (tuple-list terms) l }
 
 applied-keeps : (n : ℕ) (asking : Bool) (most : Option ℕ) (vars kept : List NameId) (head : Option Term) (goals : List Goal) (rows : List OpenTerm) →
     Keeps n (unfinished asking most vars kept head goals rows) → Keeps (n + 1) (applied_in rows (unfinished asking most vars kept head goals rows))
@@ -204,13 +204,10 @@ pair-facts n asking vars kept goals outer opening terms (right ∷ left ∷ befo
     let was : terms ≡ front ++ left ∷ right ∷ [] = sym (reverse-reverse terms) ∙ ap reverse e ∙ reverse-append (right ∷ left ∷ []) before in
     let now : reverse (Dot left right ∷ before) ≡ front ++ Dot left right ∷ [] = reverse-append (Dot left right ∷ []) before in
     let given : Facts n asking vars kept (start ++ flat_map parts_of (left ∷ right ∷ [])) =
-        subst (λ (l : List Term). Facts n asking vars kept l) (ap (λ (l : List Term). parts_with goals (open_term opening l ∷ outer)) was ∙ pair-parts front goals outer opening (left ∷ right ∷ [])) f in
-    let made = facts-insert n asking vars kept start (flat_map parts_of (left ∷ right ∷ [])) (Dot left right) given (record { vars_known = tt; kept_known = tt; short = omega arith }) refl in
+    subst (λ (l : List Term). Facts n asking vars kept l) (ap (λ (l : List Term). parts_with goals (open_term opening l ∷ outer)) was ∙ pair-parts front goals outer opening (left ∷ right ∷ [])) f in
+    let made = facts-insert n asking vars kept start (flat_map parts_of (left ∷ right ∷ [])) (Dot left right) given (record { vars_known = tt; kept_known = tt; short = short-of (Dot left right) [] (n + 1) (dot-list left right) (omega arith) }) refl in
     subst (λ (l : List Term). Facts (n + 1) asking vars kept l)
     (ap (λ (l : List Term). start ++ l) (sym (dot-parts left right)) ∙ sym (pair-parts front goals outer opening (Dot left right ∷ [])) ∙ ap (λ (l : List Term). parts_with goals (open_term opening l ∷ outer)) (sym now)) made
-
-length-reverse : (xs : List Term) → length (reverse xs) ≡ length xs
-length-reverse xs = search (arith)
 
 joined-length : (terms : List Term) → length (joined_dot terms) ≤ length terms
 joined-length [] = omega arith
@@ -233,7 +230,7 @@ var-facts n asking true name vars kept parts e f =
     let below : number_of name vars < length vars = known-below name vars e in
     let more = facts-raised n asking vars kept parts f in
     record {
-      fine = all-append (IsFine (length vars) (length kept) (n + 1)) parts (Var (number_of name vars) ∷ []) more.fine (record { vars_known = (below, tt); kept_known = tt; short = omega arith }, tt);
+      fine = all-append (IsFine (length vars) (length kept) (n + 1)) parts (Var (number_of name vars) ∷ []) more.fine (record { vars_known = (below, tt); kept_known = tt; short = short-of (Var (number_of name vars)) [] (n + 1) (var-list (number_of name vars)) (omega arith) }, tt);
       distinct = f.distinct;
       numbered = λ a.
           let total : max (length vars) (number_of name vars + 1) ≡ length vars = omega arith in
@@ -245,9 +242,9 @@ var-facts n asking false name vars kept parts e f =
     let last : number_of name vars ≡ length vars = unknown-last name vars e in
     let grown : length (vars ++ name ∷ []) ≡ length vars + 1 = length_push vars name in
     let wider = all-more (IsFine (length vars) (length kept) n) (IsFine (length (vars ++ name ∷ [])) (length kept) (n + 1))
-        (fine-more (length vars) (length kept) n (length (vars ++ name ∷ [])) (length kept) (n + 1) (omega arith) (omega arith) (omega arith)) parts f.fine in
+    (fine-more (length vars) (length kept) n (length (vars ++ name ∷ [])) (length kept) (n + 1) (omega arith) (omega arith) (omega arith)) parts f.fine in
     record {
-      fine = all-append (IsFine (length (vars ++ name ∷ [])) (length kept) (n + 1)) parts (Var (number_of name vars) ∷ []) wider (record { vars_known = (omega arith, tt); kept_known = tt; short = omega arith }, tt);
+      fine = all-append (IsFine (length (vars ++ name ∷ [])) (length kept) (n + 1)) parts (Var (number_of name vars) ∷ []) wider (record { vars_known = (omega arith, tt); kept_known = tt; short = short-of (Var (number_of name vars)) [] (n + 1) (var-list (number_of name vars)) (omega arith) }, tt);
       distinct = distinct-var name vars f.distinct e;
       numbered = λ a.
           let total : max (length vars) (number_of name vars + 1) ≡ length (vars ++ name ∷ []) = omega arith in
@@ -272,9 +269,9 @@ kept-facts : (n : ℕ) (name : NameId) (vars kept : List NameId) (parts : List T
 kept-facts n name vars kept parts f =
     let grown : length (kept ++ name ∷ []) ≡ length kept + 1 = length_push kept name in
     let wider = all-more (IsFine (length vars) (length kept) n) (IsFine (length vars) (length (kept ++ name ∷ [])) (n + 1))
-        (fine-more (length vars) (length kept) n (length vars) (length (kept ++ name ∷ [])) (n + 1) (omega arith) (omega arith) (omega arith)) parts f.fine in
+    (fine-more (length vars) (length kept) n (length vars) (length (kept ++ name ∷ [])) (n + 1) (omega arith) (omega arith) (omega arith)) parts f.fine in
     record {
-      fine = all-append (IsFine (length vars) (length (kept ++ name ∷ [])) (n + 1)) parts (Kept (length kept) ∷ []) wider (record { vars_known = tt; kept_known = (omega arith, tt); short = omega arith }, tt);
+      fine = all-append (IsFine (length vars) (length (kept ++ name ∷ [])) (n + 1)) parts (Kept (length kept) ∷ []) wider (record { vars_known = tt; kept_known = (omega arith, tt); short = short-of (Kept (length kept)) [] (n + 1) (kept-list (length kept)) (omega arith) }, tt);
       distinct = f.distinct;
       numbered = λ a. subst (λ (l : List ℕ). NumberedByAppearance 0 (length vars) l) (sym (append-nil (vars_of parts)) ∙ sym (flat_map-append number_of_var parts (Kept (length kept) ∷ []))) (f.numbered a);
       ruled = λ a. cc;
@@ -310,10 +307,14 @@ headed-keeps n most vars kept head goals (row ∷ outer) k =
   where
     head-of : (opening : Option NameId) (terms : List Term) → length terms ≤ n + 1 → AllByRecursion (IsFine (length vars) 0 (n + 1)) (flat_map parts_of terms) → IsHead (n + 1) (length vars) (head_made opening terms)
     head-of None terms l fine = record { is = λ term e. cc }
-    head-of (Some name) terms l fine = record { is = λ term e.
-        let same : Name name terms ≡ term = cc in
-        ((name, terms, sym same), subst (λ (t : Term). AllByRecursion (IsFine (length vars) 0 (n + 1)) (parts_of t)) same
-        (subst (λ (l : List Term). AllByRecursion (IsFine (length vars) 0 (n + 1)) l) (sym (parts-Name name terms)) (made-fine (length vars) 0 (n + 1) (Some name) terms l, fine))) }
+    head-of (Some name) terms l fine = record {
+      is = λ term e.
+          let same : Name name terms ≡ term = cc in (
+            (name, terms, sym same),
+            subst (λ (t : Term). AllByRecursion (IsFine (length vars) 0 (n + 1)) (parts_of t)) same
+                (subst (λ (l : List Term). AllByRecursion (IsFine (length vars) 0 (n + 1)) l) (sym (parts-Name name terms)) (made-fine (length vars) 0 (n + 1) (Some name) terms l, fine)),
+          );
+    }
 
 head-keeps : (n : ℕ) (asking : Bool) (most : Option ℕ) (vars kept : List NameId) (head : Option Term) (goals : List Goal) (rows : List OpenTerm) →
     Keeps n (unfinished asking most vars kept head goals rows) → Keeps (n + 1) (clause_said action.Head (unfinished asking most vars kept head goals rows))
@@ -362,7 +363,7 @@ rule-whole n head c few closed ruled is k =
     let P = IsFine (length c.vars) 0 n in
     let top = k.head.is head is in
     let body : AllByRecursion P (parts_of_goals c.goals) = subst (λ (l : List NameId). AllByRecursion (IsFine (length c.vars) (length l) n) (parts_of_goals c.goals)) (k.facts.ruled ruled)
-        (all-front (IsFine (length c.vars) (length c.kept) n) (parts_of_goals c.goals) (row_parts c.rows) k.facts.fine) in
+    (all-front (IsFine (length c.vars) (length c.kept) n) (parts_of_goals c.goals) (row_parts c.rows) k.facts.fine) in
     let all = all-append P (parts_of head) (parts_of_goals c.goals) top.1 body in
     record {
       head = top.0;

@@ -1,5 +1,5 @@
 -- The limits of an input that aren't in its grammar: what is counted, and which token is one too many.
-use Rattle.std.specs.Prelude.{ℕ, ℤ, pos, int_lt, List, [], ◌∷◌, ◌++◌, ◌+◌, ◌==◌, ◌&&◌, ◌||◌, Option, Some, None, Bool, true, false, nat_le, nat_lt, if◌then◌else◌, is_some, position, length, reverse}
+use Rattle.std.specs.Prelude.{ℕ, pos, int_lt, List, [], ◌∷◌, ◌++◌, ◌+◌, ◌==◌, ◌&&◌, ◌||◌, Option, Some, None, Bool, true, false, nat_le, nat_lt, if◌then◌else◌, is_some, position, length, reverse}
 use Rattle.mars_grammar.specs.FormTable.{Event, Read, Say}
 use Rattle.mars_grammar.specs.Building.{Build}
 use Rattle.mars_tree.specs.declared.label.NameId.{NameId}

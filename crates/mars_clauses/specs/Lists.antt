@@ -1,5 +1,5 @@
 -- The rules and asks of a text, in order, as what its events make.
-use Rattle.std.specs.Prelude.{List, [], ◌∷◌, ◌++◌, Option, None, Bool, false}
+use Rattle.std.specs.Prelude.{List, [], ◌∷◌, ◌++◌, None, Bool, false}
 use Rattle.mars_grammar.specs.FormTable.{Event, Read, Say}
 use Rattle.mars_grammar.specs.Building.{Build}
 use Rattle.mars_term.specs.declared.clause.Rule.{Rule}

@@ -1,4 +1,4 @@
-use Rattle.std.proofs.Common.{◌∙◌, ap, rules, tests, ◌==◌, is_some, position}
+use Rattle.std.proofs.Common.{◌∙◌, ap, rules, tests, ◌==◌, is_some}
 use Rattle.std.proofs.lemmas.Iterator.{YieldsList-from_slice}
 use Rattle.std.proofs.lemmas.Iterator.Search.{position_from_yields_List}
 use Rattle.mars_tree.specs.declared.label.NameId.{NameId}

@@ -1,4 +1,4 @@
-use Rattle.std.proofs.Common.{◌≡◌, ◌∙◌, ap}
+use Rattle.std.proofs.Common.{◌∙◌, ap}
 use Rattle.std.proofs.lemmas.Result.{IfOk-weaker}
 use Rattle.mars_clauses.specs.Terms.{number_of}
 use Rattle.mars_clauses.proofs.variables.VariableList.number.Goals as goal

@@ -1,4 +1,4 @@
-use Rattle.std.proofs.Common.{◌≡◌, ◌∙◌, ap, sym, List, [], ◌∷◌, ◌++◌, take, ◌+◌}
+use Rattle.std.proofs.Common.{◌∙◌, ap, sym, List, [], ◌∷◌, ◌++◌, take, ◌+◌}
 use Rattle.mars_base.proofs.ListFacts.{take-next}
 use Rattle.mars_tree.specs.declared.label.NameId.{NameId}
 use Rattle.mars_clauses.proofs.variables.VariableList.to_names.Goals as goal
