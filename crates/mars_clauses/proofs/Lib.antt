@@ -1,0 +1,3 @@
+mod PartFacts
+mod VarFacts
+mod WellFormedLemmas
