@@ -1,47 +1,54 @@
 -- What each step of a builder keeps.
-use Rattle.std.proofs.Common.{◌≡◌, ◌≢◌, ℕ, zero, suc, ◌+◌, ◌<◌, List, [], ◌∷◌, ◌++◌, length, map, refl, ap, sym, ◌∙◌, subst, Option, Some, None, inl, inr, ◌⊎◌, Bool, true, false, get_or, slice_get, length-append, length-set, arith, is_some, cond}
-use Rattle.std.specs.Prelude.{All, IfSome, if◌then◌else◌, not, ◌==◌}
+use Rattle.std.proofs.Common.{◌≡◌, ◌≢◌, ℕ, zero, suc, ◌+◌, ◌<◌, List, [], ◌∷◌, ◌++◌, length, refl, ap, sym, ◌∙◌, subst, Option, Some, None, inl, inr, ◌⊎◌, Bool, true, false, get_or, slice_get, length-append, length-set, arith, is_some, cond}
+use Rattle.std.specs.Prelude.{All, IfSome, if◌then◌else◌, not, ◌==◌, ◌↔◌}
 use Rattle.std.specs.Option.{option_map_or}
 use Rattle.std.proofs.lemmas.Bool.Decides.{nat_tests}
 use Rattle.indexmap.specs.IndexMap.{insert_entry}
 use Rattle.mars_tree.specs.declared.label.Label.{Label}
-use Rattle.std.specs.Str.{bytes_eq}
 use Rattle.std.specs.Map.{lookup}
-use Rattle.std.proofs.lemmas.Slice.Eq.{bytes_eq-Decides}
 use Rattle.std.proofs.lemmas.Option.{slice_get_within}
 use Rattle.std.proofs.lemmas.List.{get_or-set_other}
 use Rattle.std.proofs.Math.ListN.{get_or-append}
 use Rattle.std.proofs.lemmas.List.Elements.{All-append, All-cons, All-nil, All-weaker, All-set}
+use Rattle.mars_tree.specs.declared.label.NameId.{NameId}
 use Rattle.mars_tree.specs.Graph.{Node, free_leaf, labelled}
+use Rattle.mars_graphs.specs.Systems.{same_variable}
 use Rattle.mars_graphs.specs.Nodes.{Nodes, no_nodes, leaf_among, leaf_of_variable, target_among, target_of, nodes_with, nodes_with_variable, nodes_with_target, kids_set, has_target, AreNodes}
 
--- the builder with a leaf for a new variable
-abbrev pub leaf_added : Nodes → List ℕ → Nodes
+-- variables are equal where the test says so
+same-test : (n m : ℕ) → ((n == m) ≡ true) ↔ (n ≡ m)
+same-test n m = (λ e. grind (arith, nat_tests), λ e. grind (arith, nat_tests))
+
+pub same-decides : (x y : NameId) → (same_variable x y ≡ true) ↔ (x ≡ y)
+same-decides x y = (λ e. ap (λ n. record { 0 = n }) ((same-test x.0 y.0).0 e), λ e. (same-test x.0 y.0).1 (ap (λ (z : NameId). z.0) e))
+
+-- the nodes with a leaf for a new variable
+abbrev pub leaf_added : Nodes → NameId → Nodes
 leaf_added b x = record { nodes = b.nodes ++ free_leaf ∷ []; targets = b.targets ++ length b.nodes ∷ []; leaves = b.leaves ++ (x, length b.nodes) ∷ [] }
 
-pub nodes_with_variable-new : (b : Nodes) (x : List ℕ) → leaf_of_variable b x ≡ None → nodes_with_variable b x ≡ leaf_added b x
+pub nodes_with_variable-new : (b : Nodes) (x : NameId) → leaf_of_variable b x ≡ None → nodes_with_variable b x ≡ leaf_added b x
 nodes_with_variable-new b x e = ap (λ (v : Bool). if v then b else leaf_added b x) (ap is_some e)
 
-pub nodes_with_variable-known : (b : Nodes) (x : List ℕ) (leaf : ℕ) → leaf_of_variable b x ≡ Some leaf → nodes_with_variable b x ≡ b
+pub nodes_with_variable-known : (b : Nodes) (x : NameId) (leaf : ℕ) → leaf_of_variable b x ≡ Some leaf → nodes_with_variable b x ≡ b
 nodes_with_variable-known b x leaf e = ap (λ (v : Bool). if v then b else leaf_added b x) (ap is_some e)
 
 -- a leaf that was there stays
-pub leaf_among-append : (x : List ℕ) (leaves more : List (List ℕ × ℕ)) (n : ℕ) → leaf_among x leaves ≡ Some n → leaf_among x (leaves ++ more) ≡ Some n
+pub leaf_among-append : (x : NameId) (leaves more : List (NameId × ℕ)) (n : ℕ) → leaf_among x leaves ≡ Some n → leaf_among x (leaves ++ more) ≡ Some n
 leaf_among-append x [] more n e = absurd (cc)
-leaf_among-append x (l ∷ leaves) more n e = at (bytes_eq x l.0) (leaf_among-append x leaves more n) e
+leaf_among-append x (l ∷ leaves) more n e = at (same_variable x l.0) (leaf_among-append x leaves more n) e
   where
     at : (v : Bool) → (leaf_among x leaves ≡ Some n → leaf_among x (leaves ++ more) ≡ Some n) → (if v then Some l.1 else leaf_among x leaves) ≡ Some n → (if v then Some l.1 else leaf_among x (leaves ++ more)) ≡ Some n
     at true ih e = e
     at false ih e = ih e
 
 -- a leaf is an old one, or the new one
-pub leaf_among-added : (y x : List ℕ) (leaves : List (List ℕ × ℕ)) (n m : ℕ) → leaf_among y (leaves ++ (x, n) ∷ []) ≡ Some m → (leaf_among y leaves ≡ Some m) ⊎ ((y ≡ x) × (m ≡ n))
-leaf_among-added y x [] n m e = at (bytes_eq y x) refl e
+pub leaf_among-added : (y x : NameId) (leaves : List (NameId × ℕ)) (n m : ℕ) → leaf_among y (leaves ++ (x, n) ∷ []) ≡ Some m → (leaf_among y leaves ≡ Some m) ⊎ ((y ≡ x) × (m ≡ n))
+leaf_among-added y x [] n m e = at (same_variable y x) refl e
   where
-    at : (v : Bool) → bytes_eq y x ≡ v → (if v then Some n else None) ≡ Some m → (◌≡◌ {A = Option ℕ} None (Some m)) ⊎ ((y ≡ x) × (m ≡ n))
-    at true same e = inr ((bytes_eq-Decides y x).0 same, cc)
+    at : (v : Bool) → same_variable y x ≡ v → (if v then Some n else None) ≡ Some m → (◌≡◌ {A = Option ℕ} None (Some m)) ⊎ ((y ≡ x) × (m ≡ n))
+    at true same e = inr ((same-decides y x).0 same, cc)
     at false same e = absurd (cc)
-leaf_among-added y x (l ∷ leaves) n m e = at (bytes_eq y l.0) (leaf_among-added y x leaves n m) e
+leaf_among-added y x (l ∷ leaves) n m e = at (same_variable y l.0) (leaf_among-added y x leaves n m) e
   where
     at : (v : Bool) → (leaf_among y (leaves ++ (x, n) ∷ []) ≡ Some m → (leaf_among y leaves ≡ Some m) ⊎ ((y ≡ x) × (m ≡ n))) → (if v then Some l.1 else leaf_among y (leaves ++ (x, n) ∷ [])) ≡ Some m →
         ((if v then Some l.1 else leaf_among y leaves) ≡ Some m) ⊎ ((y ≡ x) × (m ≡ n))
@@ -49,9 +56,9 @@ leaf_among-added y x (l ∷ leaves) n m e = at (bytes_eq y l.0) (leaf_among-adde
     at false ih e = ih e
 
 -- the new variable has the new leaf
-pub leaf_among-new : (x : List ℕ) (leaves : List (List ℕ × ℕ)) (n : ℕ) → leaf_among x leaves ≡ None → leaf_among x (leaves ++ (x, n) ∷ []) ≡ Some n
-leaf_among-new x [] n e = ap (λ (v : Bool). if v then Some n else None) ((bytes_eq-Decides x x).1 refl)
-leaf_among-new x (l ∷ leaves) n e = at (bytes_eq x l.0) (leaf_among-new x leaves n) e
+pub leaf_among-new : (x : NameId) (leaves : List (NameId × ℕ)) (n : ℕ) → leaf_among x leaves ≡ None → leaf_among x (leaves ++ (x, n) ∷ []) ≡ Some n
+leaf_among-new x [] n e = ap (λ (v : Bool). if v then Some n else None) ((same-decides x x).1 refl)
+leaf_among-new x (l ∷ leaves) n e = at (same_variable x l.0) (leaf_among-new x leaves n) e
   where
     at : (v : Bool) → (leaf_among x leaves ≡ None → leaf_among x (leaves ++ (x, n) ∷ []) ≡ Some n) → (if v then Some l.1 else leaf_among x leaves) ≡ None → (if v then Some l.1 else leaf_among x (leaves ++ (x, n) ∷ [])) ≡ Some n
     at true ih e = absurd (cc)
@@ -118,7 +125,7 @@ nodes-node b node nodes = record {
   apart = nodes.apart;
 }
 
-pub nodes-leaf : (b : Nodes) (x : List ℕ) → AreNodes b → leaf_of_variable b x ≡ None → AreNodes (leaf_added b x)
+pub nodes-leaf : (b : Nodes) (x : NameId) → AreNodes b → leaf_of_variable b x ≡ None → AreNodes (leaf_added b x)
 nodes-leaf b x nodes new = record {
   size = size-added b free_leaf nodes;
   in_range = targets-in b free_leaf nodes;
@@ -139,7 +146,7 @@ nodes-leaf b x nodes new = record {
   ];
 }
 
-pub nodes-target : (b : Nodes) (x : List ℕ) (leaf root : ℕ) → AreNodes b → leaf_of_variable b x ≡ Some leaf → root < length b.nodes → AreNodes (nodes_with_target b leaf root)
+pub nodes-target : (b : Nodes) (x : NameId) (leaf root : ℕ) → AreNodes b → leaf_of_variable b x ≡ Some leaf → root < length b.nodes → AreNodes (nodes_with_target b leaf root)
 nodes-target b x leaf root nodes found less = record {
   size = length-set b.targets leaf root ∙ nodes.size;
   in_range = All-set (λ target. target < length b.nodes) b.targets leaf root less nodes.in_range;
@@ -150,17 +157,12 @@ nodes-target b x leaf root nodes found less = record {
   apart = nodes.apart;
 }
 
--- a variable's leaf, where the variable is the text of a key
-abbrev pub with_text : {K : Type 0} → (K → List ℕ) → K × ℕ → List ℕ × ℕ
-with_text text e = (text e.0, e.1)
-
--- the leaves of a list of variables, found by a test on their keys
-pub leaf_among-lookup : {K : Type 0} (text : K → List ℕ) (x : List ℕ) (entries : List (K × ℕ)) → lookup (λ k. bytes_eq x (text k)) entries ≡ leaf_among x (map (with_text text) entries)
-leaf_among-lookup text x [] = refl
-leaf_among-lookup text x (e ∷ entries) = at (bytes_eq x (text e.0)) (leaf_among-lookup text x entries)
+-- the leaf of a variable, found by a test on the keys
+pub leaf_among-lookup : (x : NameId) (leaves : List (NameId × ℕ)) → lookup (same_variable x) leaves ≡ leaf_among x leaves
+leaf_among-lookup x [] = refl
+leaf_among-lookup x (l ∷ leaves) = at (same_variable x l.0) (leaf_among-lookup x leaves)
   where
-    at : (v : Bool) → lookup (λ k. bytes_eq x (text k)) entries ≡ leaf_among x (map (with_text text) entries) →
-        cond v (Some e.1) (lookup (λ k. bytes_eq x (text k)) entries) ≡ (if v then Some e.1 else leaf_among x (map (with_text text) entries))
+    at : (v : Bool) → lookup (same_variable x) leaves ≡ leaf_among x leaves → cond v (Some l.1) (lookup (same_variable x) leaves) ≡ (if v then Some l.1 else leaf_among x leaves)
     at true ih = refl
     at false ih = ih
 
@@ -171,24 +173,20 @@ pub eq-test : (n m : ℕ) → n ≡ m → (n == m) ≡ true
 eq-test n m h = grind (arith, nat_tests)
 
 -- a new key goes last
-pub leaves-inserted : {K : Type 0} (same : K → K → Bool) (text : K → List ℕ) (k : K) (n : ℕ) (entries : List (K × ℕ)) → ((i j : K) → same i j ≡ bytes_eq (text i) (text j)) → leaf_among (text k) (map (with_text text) entries) ≡ None →
-    map (with_text text) (insert_entry same entries k n) ≡ map (with_text text) entries ++ (text k, n) ∷ []
-leaves-inserted same text k n [] is none = refl
-leaves-inserted same text k n (e ∷ entries) is none =
-    at (same k e.0) (is k e.0) (leaves-inserted same text k n entries is) none
+pub leaves-inserted : (x : NameId) (n : ℕ) (leaves : List (NameId × ℕ)) → leaf_among x leaves ≡ None → insert_entry same_variable leaves x n ≡ leaves ++ (x, n) ∷ []
+leaves-inserted x n [] none = refl
+leaves-inserted x n (l ∷ leaves) none = at (same_variable x l.0) (leaves-inserted x n leaves) none
   where
-    at : (v : Bool) → v ≡ bytes_eq (text k) (text e.0) →
-        (leaf_among (text k) (map (with_text text) entries) ≡ None → map (with_text text) (insert_entry same entries k n) ≡ map (with_text text) entries ++ (text k, n) ∷ []) →
-        leaf_among (text k) (map (with_text text) (e ∷ entries)) ≡ None →
-        map (with_text text) (if v then (e.0, n) ∷ entries else e ∷ insert_entry same entries k n) ≡ map (with_text text) (e ∷ entries) ++ (text k, n) ∷ []
-    at true is ih none = absurd (let found : ◌≡◌ {A = Option ℕ} (Some e.1) None = subst (λ (v : Bool). (if v then Some e.1 else leaf_among (text k) (map (with_text text) entries)) ≡ None) (sym is) none in cc)
-    at false is ih none = ap (λ l. with_text text e ∷ l) (ih (subst (λ (v : Bool). (if v then Some e.1 else leaf_among (text k) (map (with_text text) entries)) ≡ None) (sym is) none))
+    at : (v : Bool) → (leaf_among x leaves ≡ None → insert_entry same_variable leaves x n ≡ leaves ++ (x, n) ∷ []) → (if v then Some l.1 else leaf_among x leaves) ≡ None →
+        (if v then (l.0, n) ∷ leaves else l ∷ insert_entry same_variable leaves x n) ≡ l ∷ (leaves ++ (x, n) ∷ [])
+    at true ih none = absurd (cc)
+    at false ih none = ap (λ rest. l ∷ rest) (ih none)
 
-pub leaf-in-range : (b : Nodes) (x : List ℕ) (o : Option ℕ) → AreNodes b → o ≡ leaf_of_variable b x → IfSome o (λ n. n < length b.nodes)
+pub leaf-in-range : (b : Nodes) (x : NameId) (o : Option ℕ) → AreNodes b → o ≡ leaf_of_variable b x → IfSome o (λ n. n < length b.nodes)
 leaf-in-range b x None nodes e = tt
 leaf-in-range b x (Some n) nodes e = slice_get_within b.nodes n free_leaf (nodes.free x n (sym e))
 
-pub nodes-is : (n m : List Node) (t u : List ℕ) (l k : List (List ℕ × ℕ)) → n ≡ m → t ≡ u → l ≡ k → ◌≡◌ {A = Nodes} (record { nodes = n; targets = t; leaves = l }) (record { nodes = m; targets = u; leaves = k })
+pub nodes-is : (n m : List Node) (t u : List ℕ) (l k : List (NameId × ℕ)) → n ≡ m → t ≡ u → l ≡ k → ◌≡◌ {A = Nodes} (record { nodes = n; targets = t; leaves = l }) (record { nodes = m; targets = u; leaves = k })
 nodes-is n m t u l k e f g = cc
 
 -- a node that was put last gets its kids
@@ -202,12 +200,12 @@ kids_set-last g l ks kids n e = at g n e
     at (x ∷ g) (suc n) e = ap (λ h. x ∷ h) (at g n (omega arith))
 
 -- what the variable's leaf gives way to
-pub record Leaf (old new : Nodes) (x : List ℕ) (leaf : ℕ) : Type 0 where
+pub record Leaf (old new : Nodes) (x : NameId) (leaf : ℕ) : Type 0 where
   pub defined : target_of new leaf ≢ leaf → has_target old x ≡ true
   pub undefined : target_of new leaf ≡ leaf → has_target old x ≡ false
   pub same : target_of new leaf ≢ leaf → new ≡ old
 
-pub leaf-of-variable : (old new : Nodes) (x : List ℕ) (leaf : ℕ) → AreNodes old → new ≡ nodes_with_variable old x → leaf_of_variable new x ≡ Some leaf → Leaf old new x leaf
+pub leaf-of-variable : (old new : Nodes) (x : NameId) (leaf : ℕ) → AreNodes old → new ≡ nodes_with_variable old x → leaf_of_variable new x ≡ Some leaf → Leaf old new x leaf
 leaf-of-variable old new x leaf nodes is found = at (leaf_of_variable old x) refl
   where
     known : (l : ℕ) → leaf_of_variable old x ≡ Some l → Leaf old new x leaf

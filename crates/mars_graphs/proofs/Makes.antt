@@ -7,6 +7,7 @@ use Rattle.std.proofs.lemmas.List.{drop_min, take_min, reverse-append}
 use Rattle.std.proofs.Math.Seq.{take-length}
 use Rattle.mars_base.proofs.ListFacts.{All-get}
 use Rattle.mars_tree.specs.declared.label.Label.{Label}
+use Rattle.mars_tree.specs.declared.label.NameId.{NameId}
 use Rattle.mars_tree.specs.Graph.{Node, labelled, label_of, free_leaf}
 use Rattle.mars_graphs.specs.declared.maker.Head.{Head}
 use Rattle.mars_graphs.specs.Nodes.{Nodes, leaf_of_variable, nodes_with, nodes_with_variable, nodes_with_target, gives_way, AreNodes}
@@ -20,7 +21,7 @@ abbrev pub AreTerms : Nodes → List ℕ → Type 0
 AreTerms b terms = All (λ term. term < length b.nodes) terms
 
 -- a variable has a leaf once it was asked for
-pub variable-found : (b : Nodes) (x : List ℕ) → leaf_of_variable (nodes_with_variable b x) x ≡ Some (with_leaf b x).1
+pub variable-found : (b : Nodes) (x : NameId) → leaf_of_variable (nodes_with_variable b x) x ≡ Some (with_leaf b x).1
 variable-found b x = at (leaf_of_variable b x) refl
   where
     known : (o : Option ℕ) → o ≡ leaf_of_variable (nodes_with_variable b x) x → (n : ℕ) → o ≡ Some n → leaf_of_variable (nodes_with_variable b x) x ≡ Some (with_leaf b x).1
@@ -30,10 +31,10 @@ variable-found b x = at (leaf_of_variable b x) refl
     at None e = known (leaf_of_variable (nodes_with_variable b x) x) refl (length b.nodes) (ap (λ (c : Nodes). leaf_of_variable c x) (nodes_with_variable-new b x e) ∙ leaf_among-new x b.leaves (length b.nodes) e)
     at (Some n) e = known (leaf_of_variable (nodes_with_variable b x) x) refl n (ap (λ (c : Nodes). leaf_of_variable c x) (nodes_with_variable-known b x n e) ∙ e)
 
-pub variable-within : (b : Nodes) (x : List ℕ) → AreNodes b → (with_leaf b x).1 < length (nodes_with_variable b x).nodes
+pub variable-within : (b : Nodes) (x : NameId) → AreNodes b → (with_leaf b x).1 < length (nodes_with_variable b x).nodes
 variable-within b x nodes = slice_get_within (nodes_with_variable b x).nodes (with_leaf b x).1 free_leaf ((nodes-variable b x nodes).free x (with_leaf b x).1 (variable-found b x))
 
-pub no-shorter : (b : Nodes) (x : List ℕ) → length b.nodes ≤ length (nodes_with_variable b x).nodes
+pub no-shorter : (b : Nodes) (x : NameId) → length b.nodes ≤ length (nodes_with_variable b x).nodes
 no-shorter b x = let grows = (grows-variable b x).nodes in omega (arith, ap length grows.1, length-append b.nodes grows.0)
 
 terms-longer : (b c : Nodes) (terms : List ℕ) → length b.nodes ≤ length c.nodes → AreTerms b terms → AreTerms c terms
@@ -42,7 +43,7 @@ terms-longer b c terms le are = All-weaker (λ term. term < length b.nodes) (λ 
 terms-pushed : (b : Nodes) (terms : List ℕ) (term : ℕ) → term < length b.nodes → AreTerms b terms → AreTerms b (terms ++ term ∷ [])
 terms-pushed b terms term less are = All-append (λ term. term < length b.nodes) terms (term ∷ []) are (All-cons (λ term. term < length b.nodes) term [] less (All-nil (λ term. term < length b.nodes)))
 
-left-grown : (b c : Nodes) (left : Option ℕ) → ((x : List ℕ) (leaf : ℕ) → leaf_of_variable b x ≡ Some leaf → leaf_of_variable c x ≡ Some leaf) → IsSomeLeaf b left → IsSomeLeaf c left
+left-grown : (b c : Nodes) (left : Option ℕ) → ((x : NameId) (leaf : ℕ) → leaf_of_variable b x ≡ Some leaf → leaf_of_variable c x ≡ Some leaf) → IsSomeLeaf b left → IsSomeLeaf c left
 left-grown b c None grows left = tt
 left-grown b c (Some leaf) grows (x, e) = (x, grows x leaf e)
 
@@ -52,7 +53,7 @@ with-node-longer b node = length-append b.nodes (node ∷ [])
 pub making-nothing : IsMaking nothing_made
 making-nothing = record { nodes = nodes-nothing; terms = All-nil (λ term. term < 0); left = tt }
 
-pub making-variable : (m : Making) (x : List ℕ) → IsMaking m → IsMaking (makes m (Variable x))
+pub making-variable : (m : Making) (x : NameId) → IsMaking m → IsMaking (makes m (Variable x))
 making-variable m x is =
     let b = m.nodes in
     let c = nodes_with_variable b x in
@@ -62,7 +63,7 @@ making-variable m x is =
       left = left-grown b c m.left (λ y leaf e. leaf-grown b c y leaf (grows-variable b x) e) is.left;
     }
 
-pub making-equate : (m : Making) (x : List ℕ) → IsMaking m → IsMaking (makes m (Equate x))
+pub making-equate : (m : Making) (x : NameId) → IsMaking m → IsMaking (makes m (Equate x))
 making-equate m x is =
     let b = m.nodes in
     let c = nodes_with_variable b x in
@@ -137,7 +138,7 @@ making-step m (Equate x) is = making-equate m x is
 making-step m Define is = making-defined m (slice_get m.terms (length m.terms - 1)) refl is
 
 -- what the code makes is what the steps make
-pub variable-made : (m : Making) (b : Nodes) (x terms : List ℕ) (leaf : ℕ) → b ≡ nodes_with_variable m.nodes x → leaf_of_variable b x ≡ Some leaf → terms ≡ m.terms ++ leaf ∷ [] → record m { nodes = b; terms = terms } ≡ makes m (Variable x)
+pub variable-made : (m : Making) (b : Nodes) (x : NameId) (terms : List ℕ) (leaf : ℕ) → b ≡ nodes_with_variable m.nodes x → leaf_of_variable b x ≡ Some leaf → terms ≡ m.terms ++ leaf ∷ [] → record m { nodes = b; terms = terms } ≡ makes m (Variable x)
 variable-made m b x terms leaf is found pushed =
     let there : leaf_of_variable (nodes_with_variable m.nodes x) x ≡ Some leaf = ap (λ (c : Nodes). leaf_of_variable c x) (sym is) ∙ found in
     let same : leaf ≡ (with_leaf m.nodes x).1 = sym (ap leaf_or there) in
@@ -147,7 +148,7 @@ pub node-made : (m : Making) (b : Nodes) (l : Label) (terms : List ℕ) (node : 
 node-made m b l terms node is at pushed =
     ap (λ (c : Nodes). record m { nodes = c; terms = terms }) is ∙ ap (λ (t : List ℕ). record m { nodes = nodes_with m.nodes (labelled l []); terms = t }) (pushed ∙ ap (λ n. m.terms ++ n ∷ []) at)
 
-pub making-left : (m : Making) (b : Nodes) (x : List ℕ) (leaf : ℕ) (twice : Bool) → IsMaking m → b ≡ nodes_with_variable m.nodes x → leaf_of_variable b x ≡ Some leaf → IsMaking (record m { nodes = b; left = Some leaf; twice = twice })
+pub making-left : (m : Making) (b : Nodes) (x : NameId) (leaf : ℕ) (twice : Bool) → IsMaking m → b ≡ nodes_with_variable m.nodes x → leaf_of_variable b x ≡ Some leaf → IsMaking (record m { nodes = b; left = Some leaf; twice = twice })
 making-left m b x leaf twice is same found =
     let equated = making-equate m x is in
     record {
@@ -156,7 +157,7 @@ making-left m b x leaf twice is same found =
       left = (x, found);
     }
 
-pub left-leaf : (m : Making) (leaf : ℕ) → IsMaking m → m.left ≡ Some leaf → (x : List ℕ) × (leaf_of_variable m.nodes x ≡ Some leaf)
+pub left-leaf : (m : Making) (leaf : ℕ) → IsMaking m → m.left ≡ Some leaf → (x : NameId) × (leaf_of_variable m.nodes x ≡ Some leaf)
 left-leaf m leaf is e = subst (IsSomeLeaf m.nodes) e is.left
 
 -- with no left side nothing is tied

@@ -2,6 +2,7 @@
 use Rattle.std.proofs.Common.{◌≡◌, ℕ, ◌+◌, ◌-◌, ◌<◌, ◌≤◌, List, [], ◌∷◌, length, drop, refl, ap, Option, Some, None, slice_get, length-append, arith}
 use Rattle.std.proofs.lemmas.List.{length-map}
 use Rattle.mars_tree.specs.declared.label.Label.{Label}
+use Rattle.mars_tree.specs.declared.label.NameId.{NameId}
 use Rattle.mars_tree.specs.Graph.{label_of}
 use Rattle.mars_graphs.specs.declared.maker.Head.{Head}
 use Rattle.mars_graphs.specs.Nodes.{Nodes, leaf_of_variable, nodes_with_variable, tied}
@@ -16,7 +17,7 @@ use Rattle.mars_graphs.proofs.Makes.{with-node-longer, tied-nodes-same}
 abbrev size_of : Making → ℕ
 size_of m = length m.nodes.nodes + length m.heads
 
-variable-longer : (b : Nodes) (x : List ℕ) → length (nodes_with_variable b x).nodes ≤ length b.nodes + 1
+variable-longer : (b : Nodes) (x : NameId) → length (nodes_with_variable b x).nodes ≤ length b.nodes + 1
 variable-longer b x = at (leaf_of_variable b x) refl
   where
     at : (o : Option ℕ) → leaf_of_variable b x ≡ o → length (nodes_with_variable b x).nodes ≤ length b.nodes + 1

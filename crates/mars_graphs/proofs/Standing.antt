@@ -2,18 +2,17 @@
 use Rattle.std.proofs.Common.{◌≡◌, ℕ, ◌<◌, List, [], ◌∷◌, ◌++◌, length, refl, ap, sym, ◌∙◌, subst, Option, Some, None, inl, inr, ◌⊎◌, Bool, true, false, slice_get, append_assoc, append-nil, arith}
 use Rattle.std.specs.Prelude.{All, IsSome, if◌then◌else◌, not, ◌==◌}
 use Rattle.std.specs.Option.{option_map_or}
-use Rattle.std.specs.Str.{bytes_eq}
-use Rattle.std.proofs.lemmas.Slice.Eq.{bytes_eq-Decides}
 use Rattle.std.proofs.lemmas.Bool.Decides.{nat_tests}
 use Rattle.std.proofs.lemmas.Option.{slice_get_within}
 use Rattle.std.proofs.lemmas.List.{get_or-set_other, get_or-set_same}
 use Rattle.std.proofs.lemmas.List.Elements.{All-append, All-cons, All-nil, All-weaker, All-head, All-tail}
 use Rattle.mars_tree.specs.declared.label.Label.{Label}
+use Rattle.mars_tree.specs.declared.label.NameId.{NameId}
 use Rattle.mars_tree.specs.Graph.{Node, free_leaf}
 use Rattle.mars_tree.specs.Graph as graph
-use Rattle.mars_graphs.specs.Systems.{Side, variable, labelled, Sides, no_sides, next_side, Equation, equal_to}
+use Rattle.mars_graphs.specs.Systems.{same_variable, Side, variable, labelled, Sides, no_sides, next_side, Equation, equal_to}
 use Rattle.mars_graphs.specs.Nodes.{Nodes, no_nodes, leaf_of_variable, target_of, target_among, nodes_with, nodes_with_variable, nodes_with_target, has_target, StandsFor, StandForRow, HasLabel, Holds, NodesGrow, AreNodes}
-use Rattle.mars_graphs.proofs.Building.{leaf_added, nodes_with_variable-new, nodes_with_variable-known, leaf_among-append, leaf_among-added, slice_get-append, slice_get-new, target-added, target-new, nodes-leaf, eq-test}
+use Rattle.mars_graphs.proofs.Building.{leaf_added, nodes_with_variable-new, nodes_with_variable-known, leaf_among-append, leaf_among-added, slice_get-append, slice_get-new, target-added, target-new, nodes-leaf, eq-test, same-decides}
 use Rattle.mars_graphs.proofs.Trees.{equal-cases}
 
 pub grows-not : (b : Nodes) → NodesGrow b b
@@ -28,10 +27,10 @@ grows-then a b c g h = record {
 pub grows-node : (b : Nodes) (node : Node) → NodesGrow b (nodes_with b node)
 grows-node b node = record { nodes = (node ∷ [], refl); leaves = ([], sym (append-nil b.leaves)) }
 
-grows-leaf : (b : Nodes) (x : List ℕ) → NodesGrow b (leaf_added b x)
+grows-leaf : (b : Nodes) (x : NameId) → NodesGrow b (leaf_added b x)
 grows-leaf b x = record { nodes = (free_leaf ∷ [], refl); leaves = ((x, length b.nodes) ∷ [], refl) }
 
-pub grows-variable : (b : Nodes) (x : List ℕ) → NodesGrow b (nodes_with_variable b x)
+pub grows-variable : (b : Nodes) (x : NameId) → NodesGrow b (nodes_with_variable b x)
 grows-variable b x = at (leaf_of_variable b x) refl
   where
     at : (o : Option ℕ) → leaf_of_variable b x ≡ o → NodesGrow b (nodes_with_variable b x)
@@ -42,7 +41,7 @@ pub grows-target : (b : Nodes) (leaf root : ℕ) → NodesGrow b (nodes_with_tar
 grows-target b leaf root = record { nodes = ([], sym (append-nil b.nodes)); leaves = ([], sym (append-nil b.leaves)) }
 
 -- a leaf stays
-pub leaf-grown : (old new : Nodes) (x : List ℕ) (n : ℕ) → NodesGrow old new → leaf_of_variable old x ≡ Some n → leaf_of_variable new x ≡ Some n
+pub leaf-grown : (old new : Nodes) (x : NameId) (n : ℕ) → NodesGrow old new → leaf_of_variable old x ≡ Some n → leaf_of_variable new x ≡ Some n
 leaf-grown old new x n g e = subst (λ l. leaf_of_variable (record new { leaves = l }) x ≡ Some n) (sym g.leaves.1) (leaf_among-append x old.leaves g.leaves.0 n e)
 
 node-grown : (old new : Nodes) (n : ℕ) (node : Node) → NodesGrow old new → slice_get old.nodes n ≡ Some node → slice_get new.nodes n ≡ Some node
@@ -67,7 +66,7 @@ stands-labelled b l kids sides row =
 pub holds-nothing : Holds no_nodes []
 holds-nothing = record { each = λ x leaf e. absurd (cc); known = All-nil (λ d. IsSome (leaf_of_variable no_nodes d.variable)); applied = All-nil (λ d. HasLabel d.side) }
 
-some-grown : (old new : Nodes) (x : List ℕ) → NodesGrow old new → IsSome (leaf_of_variable old x) → IsSome (leaf_of_variable new x)
+some-grown : (old new : Nodes) (x : NameId) → NodesGrow old new → IsSome (leaf_of_variable old x) → IsSome (leaf_of_variable new x)
 some-grown old new x g some = at (leaf_of_variable old x) refl some
   where
     at : (o : Option ℕ) → leaf_of_variable old x ≡ o → IsSome o → IsSome (leaf_of_variable new x)
@@ -77,7 +76,7 @@ some-grown old new x g some = at (leaf_of_variable old x) refl some
 known-grown : (old new : Nodes) (equations : List Equation) → NodesGrow old new → All (λ d. IsSome (leaf_of_variable old d.variable)) equations → All (λ d. IsSome (leaf_of_variable new d.variable)) equations
 known-grown old new equations g known = All-weaker (λ d. IsSome (leaf_of_variable old d.variable)) (λ d. IsSome (leaf_of_variable new d.variable)) (λ d some. some-grown old new d.variable g some) equations known
 
-pub leaf-within : (b : Nodes) (x : List ℕ) (leaf : ℕ) → AreNodes b → leaf_of_variable b x ≡ Some leaf → leaf < length b.targets
+pub leaf-within : (b : Nodes) (x : NameId) (leaf : ℕ) → AreNodes b → leaf_of_variable b x ≡ Some leaf → leaf < length b.targets
 leaf-within b x leaf nodes e = omega (arith, slice_get_within b.nodes leaf free_leaf (nodes.free x leaf e), nodes.size)
 
 -- a further node
@@ -95,19 +94,19 @@ no-some : IsSome {T = ℕ} None → ⊥
 no-some e = cc
 
 -- a variable that no leaf is known of has no equation
-unknown-undefined : (b : Nodes) (x : List ℕ) (equations : List Equation) → leaf_of_variable b x ≡ None → All (λ d. IsSome (leaf_of_variable b d.variable)) equations → equal_to equations x ≡ variable x
+unknown-undefined : (b : Nodes) (x : NameId) (equations : List Equation) → leaf_of_variable b x ≡ None → All (λ d. IsSome (leaf_of_variable b d.variable)) equations → equal_to equations x ≡ variable x
 unknown-undefined b x [] new known = refl
-unknown-undefined b x (d ∷ equations) new known = at (bytes_eq x d.variable) refl (unknown-undefined b x equations new (All-tail (λ d. IsSome (leaf_of_variable b d.variable)) d equations known))
+unknown-undefined b x (d ∷ equations) new known = at (same_variable x d.variable) refl (unknown-undefined b x equations new (All-tail (λ d. IsSome (leaf_of_variable b d.variable)) d equations known))
   where
-    at : (v : Bool) → bytes_eq x d.variable ≡ v → equal_to equations x ≡ variable x → (if v then d.side else equal_to equations x) ≡ variable x
+    at : (v : Bool) → same_variable x d.variable ≡ v → equal_to equations x ≡ variable x → (if v then d.side else equal_to equations x) ≡ variable x
     at false e rest = rest
     at true e rest =
-        let same : x ≡ d.variable = (bytes_eq-Decides x d.variable).0 e in
+        let same : x ≡ d.variable = (same-decides x d.variable).0 e in
         let some : IsSome (leaf_of_variable b d.variable) = All-head (λ d. IsSome (leaf_of_variable b d.variable)) d equations known in
         let nowhere : leaf_of_variable b d.variable ≡ None = ap (leaf_of_variable b) (sym same) ∙ new in
         absurd (no-some (subst IsSome nowhere some))
 
-holds-leaf : (b : Nodes) (x : List ℕ) (equations : List Equation) → AreNodes b → leaf_of_variable b x ≡ None → Holds b equations → Holds (leaf_added b x) equations
+holds-leaf : (b : Nodes) (x : NameId) (equations : List Equation) → AreNodes b → leaf_of_variable b x ≡ None → Holds b equations → Holds (leaf_added b x) equations
 holds-leaf b x equations nodes new holds = record {
   each = λ y leaf e. elim (leaf_among-added y x b.leaves (length b.nodes) leaf e) [
     | inl old ↦
@@ -124,7 +123,7 @@ holds-leaf b x equations nodes new holds = record {
 }
 
 -- a further variable
-pub holds-variable : (b : Nodes) (x : List ℕ) (equations : List Equation) → AreNodes b → Holds b equations → Holds (nodes_with_variable b x) equations
+pub holds-variable : (b : Nodes) (x : NameId) (equations : List Equation) → AreNodes b → Holds b equations → Holds (nodes_with_variable b x) equations
 holds-variable b x equations nodes holds = at (leaf_of_variable b x) refl
   where
     at : (o : Option ℕ) → leaf_of_variable b x ≡ o → Holds (nodes_with_variable b x) equations
@@ -132,7 +131,7 @@ holds-variable b x equations nodes holds = at (leaf_of_variable b x) refl
     at (Some l) e = subst (λ c. Holds c equations) (sym (nodes_with_variable-known b x l e)) holds
 
 -- a leaf is the node of no labelled term
-leaf-no-label : (b : Nodes) (x : List ℕ) (leaf : ℕ) (t : Side) → AreNodes b → leaf_of_variable b x ≡ Some leaf → StandsFor b leaf t → HasLabel t → ⊥
+leaf-no-label : (b : Nodes) (x : NameId) (leaf : ℕ) (t : Side) → AreNodes b → leaf_of_variable b x ≡ Some leaf → StandsFor b leaf t → HasLabel t → ⊥
 leaf-no-label b x leaf (variable y) nodes e s has = has
 leaf-no-label b x leaf (labelled l sides) nodes e (kids, node, row) has =
     let free = nodes.free x leaf e in
@@ -140,7 +139,7 @@ leaf-no-label b x leaf (labelled l sides) nodes e (kids, node, row) has =
     let no_label : Some l ≡ None = ap (λ (m : Node). m.label) same in
     cc
 
-pub nodes-variable : (b : Nodes) (x : List ℕ) → AreNodes b → AreNodes (nodes_with_variable b x)
+pub nodes-variable : (b : Nodes) (x : NameId) → AreNodes b → AreNodes (nodes_with_variable b x)
 nodes-variable b x nodes = at (leaf_of_variable b x) refl
   where
     at : (o : Option ℕ) → leaf_of_variable b x ≡ o → AreNodes (nodes_with_variable b x)
@@ -151,7 +150,7 @@ not-test : (n m : ℕ) → not (n == m) ≡ false → n ≡ m
 not-test n m h = grind (arith, nat_tests)
 
 -- the variables whose leaves give way are those that have an equation
-pub target-label : (b : Nodes) (x : List ℕ) (equations : List Equation) → AreNodes b → Holds b equations → has_target b x ≡ true → HasLabel (equal_to equations x)
+pub target-label : (b : Nodes) (x : NameId) (equations : List Equation) → AreNodes b → Holds b equations → has_target b x ≡ true → HasLabel (equal_to equations x)
 target-label b x equations nodes holds is = at (leaf_of_variable b x) refl is
   where
     given : (leaf : ℕ) → leaf_of_variable b x ≡ Some leaf → (target_of b leaf ≡ leaf → ⊥) → (t : Side) → equal_to equations x ≡ t → StandsFor b (target_of b leaf) t → (t ≡ variable x) ⊎ HasLabel t → HasLabel t
@@ -165,7 +164,7 @@ target-label b x equations nodes holds is = at (leaf_of_variable b x) refl is
         given leaf e (λ same. let yes : (target_of b leaf == leaf) ≡ true = eq-test (target_of b leaf) leaf same in let no : not (target_of b leaf == leaf) ≡ true = sym test ∙ is in cc) (equal_to equations x) refl (holds.each x leaf e)
         (equal-cases x equations holds.applied)
 
-pub no-target-variable : (b : Nodes) (x : List ℕ) (equations : List Equation) → AreNodes b → Holds b equations → has_target b x ≡ false → equal_to equations x ≡ variable x
+pub no-target-variable : (b : Nodes) (x : NameId) (equations : List Equation) → AreNodes b → Holds b equations → has_target b x ≡ false → equal_to equations x ≡ variable x
 no-target-variable b x equations nodes holds is = at (leaf_of_variable b x) refl
   where
     at : (o : Option ℕ) → leaf_of_variable b x ≡ o → equal_to equations x ≡ variable x
@@ -179,22 +178,22 @@ no-target-variable b x equations nodes holds is = at (leaf_of_variable b x) refl
     ]
 
 -- one equation more
-defined-last : (x : List ℕ) (t : Side) (equations : List Equation) → All (λ d. HasLabel d.side) equations → equal_to equations x ≡ variable x → equal_to (equations ++ record { variable = x; side = t } ∷ []) x ≡ t
-defined-last x t [] applied e = ap (λ (v : Bool). if v then t else variable x) ((bytes_eq-Decides x x).1 refl)
-defined-last x t (d ∷ equations) applied e = at (bytes_eq x d.variable) e (defined-last x t equations (All-tail (λ d. HasLabel d.side) d equations applied))
+defined-last : (x : NameId) (t : Side) (equations : List Equation) → All (λ d. HasLabel d.side) equations → equal_to equations x ≡ variable x → equal_to (equations ++ record { variable = x; side = t } ∷ []) x ≡ t
+defined-last x t [] applied e = ap (λ (v : Bool). if v then t else variable x) ((same-decides x x).1 refl)
+defined-last x t (d ∷ equations) applied e = at (same_variable x d.variable) e (defined-last x t equations (All-tail (λ d. HasLabel d.side) d equations applied))
   where
     at : (v : Bool) → (if v then d.side else equal_to equations x) ≡ variable x → (equal_to equations x ≡ variable x → equal_to (equations ++ record { variable = x; side = t } ∷ []) x ≡ t) →
         (if v then d.side else equal_to (equations ++ record { variable = x; side = t } ∷ []) x) ≡ t
     at true e ih = absurd (subst HasLabel e (All-head (λ d. HasLabel d.side) d equations applied))
     at false e ih = ih e
 
-defined-other : (x y : List ℕ) (t : Side) (equations : List Equation) → (y ≡ x → ⊥) → equal_to (equations ++ record { variable = x; side = t } ∷ []) y ≡ equal_to equations y
-defined-other x y t [] other = at (bytes_eq y x) refl
+defined-other : (x y : NameId) (t : Side) (equations : List Equation) → (y ≡ x → ⊥) → equal_to (equations ++ record { variable = x; side = t } ∷ []) y ≡ equal_to equations y
+defined-other x y t [] other = at (same_variable y x) refl
   where
-    at : (v : Bool) → bytes_eq y x ≡ v → (if v then t else variable y) ≡ variable y
-    at true e = absurd (other ((bytes_eq-Decides y x).0 e))
+    at : (v : Bool) → same_variable y x ≡ v → (if v then t else variable y) ≡ variable y
+    at true e = absurd (other ((same-decides y x).0 e))
     at false e = refl
-defined-other x y t (d ∷ equations) other = at (bytes_eq y d.variable) (defined-other x y t equations other)
+defined-other x y t (d ∷ equations) other = at (same_variable y d.variable) (defined-other x y t equations other)
   where
     at : (v : Bool) → equal_to (equations ++ record { variable = x; side = t } ∷ []) y ≡ equal_to equations y → (if v then d.side else equal_to (equations ++ record { variable = x; side = t } ∷ []) y) ≡ (if v then d.side else equal_to equations y)
     at true ih = refl
@@ -206,10 +205,10 @@ target-set b leaf root less = get_or-set_same b.targets leaf root leaf less
 target-kept : (b : Nodes) (leaf root n : ℕ) → (n ≡ leaf → ⊥) → target_of (nodes_with_target b leaf root) n ≡ target_of b n
 target-kept b leaf root n other = get_or-set_other b.targets leaf n root n other
 
-pub holds-target : (b : Nodes) (x : List ℕ) (leaf root : ℕ) (t : Side) (equations : List Equation) → AreNodes b → Holds b equations → leaf_of_variable b x ≡ Some leaf → equal_to equations x ≡ variable x → StandsFor b root t → HasLabel t →
+pub holds-target : (b : Nodes) (x : NameId) (leaf root : ℕ) (t : Side) (equations : List Equation) → AreNodes b → Holds b equations → leaf_of_variable b x ≡ Some leaf → equal_to equations x ≡ variable x → StandsFor b root t → HasLabel t →
     Holds (nodes_with_target b leaf root) (equations ++ record { variable = x; side = t } ∷ [])
 holds-target b x leaf root t equations nodes holds found undefined s applied = record {
-  each = λ y l e. at y l e (bytes_eq y x) refl;
+  each = λ y l e. at y l e (same_variable y x) refl;
   known = All-append (λ d. IsSome (leaf_of_variable b d.variable)) equations (d ∷ []) holds.known (All-cons (λ d. IsSome (leaf_of_variable b d.variable)) d [] (subst IsSome (sym found) refl) (All-nil (λ d. IsSome (leaf_of_variable b d.variable))));
   applied = All-append (λ d. HasLabel d.side) equations (d ∷ []) holds.applied (All-cons (λ d. HasLabel d.side) d [] applied (All-nil (λ d. HasLabel d.side)));
 }
@@ -220,7 +219,7 @@ holds-target b x leaf root t equations nodes holds found undefined s applied = r
     grown : (n : ℕ) (w : Side) → StandsFor b n w → StandsFor (nodes_with_target b leaf root) n w
     grown n w s = stands-grown b (nodes_with_target b leaf root) n w (grows-target b leaf root) s
 
-    here : (y : List ℕ) (l : ℕ) → leaf_of_variable b y ≡ Some l → y ≡ x → StandsFor (nodes_with_target b leaf root) (target_of (nodes_with_target b leaf root) l) (equal_to (equations ++ record { variable = x; side = t } ∷ []) y)
+    here : (y : NameId) (l : ℕ) → leaf_of_variable b y ≡ Some l → y ≡ x → StandsFor (nodes_with_target b leaf root) (target_of (nodes_with_target b leaf root) l) (equal_to (equations ++ record { variable = x; side = t } ∷ []) y)
     here y l e same =
         let leaves : l ≡ leaf = let also : leaf_of_variable b x ≡ Some l = subst (λ z. leaf_of_variable b z ≡ Some l) same e in cc in
         let target : target_of (nodes_with_target b leaf root) l ≡ root = ap (target_of (nodes_with_target b leaf root)) leaves ∙ target-set b leaf root (leaf-within b x leaf nodes found) in
@@ -228,10 +227,10 @@ holds-target b x leaf root t equations nodes holds found undefined s applied = r
         subst (λ n. StandsFor (nodes_with_target b leaf root) n (equal_to (equations ++ record { variable = x; side = t } ∷ []) y)) (sym target)
         (subst (λ w. StandsFor (nodes_with_target b leaf root) root w) (sym term) (grown root t s))
 
-    at : (y : List ℕ) (l : ℕ) → leaf_of_variable b y ≡ Some l → (v : Bool) → bytes_eq y x ≡ v → StandsFor (nodes_with_target b leaf root) (target_of (nodes_with_target b leaf root) l) (equal_to (equations ++ record { variable = x; side = t } ∷ []) y)
-    at y l e true is = here y l e ((bytes_eq-Decides y x).0 is)
+    at : (y : NameId) (l : ℕ) → leaf_of_variable b y ≡ Some l → (v : Bool) → same_variable y x ≡ v → StandsFor (nodes_with_target b leaf root) (target_of (nodes_with_target b leaf root) l) (equal_to (equations ++ record { variable = x; side = t } ∷ []) y)
+    at y l e true is = here y l e ((same-decides y x).0 is)
     at y l e false is =
-        let other : y ≡ x → ⊥ = λ same. let yes : bytes_eq y x ≡ true = (bytes_eq-Decides y x).1 same in cc in
+        let other : y ≡ x → ⊥ = λ same. let yes : same_variable y x ≡ true = (same-decides y x).1 same in cc in
         let target : target_of (nodes_with_target b leaf root) l ≡ target_of b l = target-kept b leaf root l (λ same. other (nodes.apart y x leaf (subst (λ k. leaf_of_variable b y ≡ Some k) same e) found)) in
         subst (λ n. StandsFor (nodes_with_target b leaf root) n (equal_to (equations ++ record { variable = x; side = t } ∷ []) y)) (sym target)
         (subst (λ w. StandsFor (nodes_with_target b leaf root) (target_of b l) w) (sym (defined-other x y t equations other)) (grown (target_of b l) (equal_to equations y) (holds.each y l e)))

@@ -3,15 +3,15 @@ use Rattle.std.proofs.Common.{◌≡◌, ℕ, ◌-◌, List, [], ◌∷◌, ◌+
 use Rattle.std.specs.Prelude.{All, ◌||◌, if◌then◌else◌, slice_index_or}
 use Rattle.std.specs.Option.{option_map_or}
 use Rattle.std.specs.List.{AllZip}
-use Rattle.std.specs.Str.{bytes_eq}
 use Rattle.std.proofs.lemmas.Option.{get_or_from_slice_get}
 use Rattle.std.proofs.lemmas.List.Elements.{All-head, All-tail}
 use Rattle.mars_tree.specs.declared.label.Label.{Label}
+use Rattle.mars_tree.specs.declared.label.NameId.{NameId}
 use Rattle.mars_tree.specs.Graph.{Node, label_of, free_leaf}
 use Rattle.mars_tree.specs.Graph as graph
 use Rattle.mars_graphs.specs.declared.maker.Head.{Head}
-use Rattle.mars_graphs.specs.Systems.{Side, variable, labelled, Sides, side_row, Equation, equal_to}
-use Rattle.mars_graphs.specs.Steps.{TreeStep, Variable, Leaf, Open, Close, Equate, Define, label_over, terms_before, Writing, nothing_written, has_equation, written_over, closed_writing, with_equation, defined_writing, writes, writes_all, system_of}
+use Rattle.mars_graphs.specs.Systems.{same_variable, Side, variable, labelled, Sides, side_row, Equation, equal_to}
+use Rattle.mars_graphs.specs.Steps.{TreeStep, Variable, Leaf, Open, Close, Equate, Define, label_over, terms_before, Writing, nothing_written, has_equation, written_over, closed_writing, with_equation, defined_writing, no_variable, writes, writes_all, system_of}
 use Rattle.mars_graphs.specs.Nodes.{Nodes, leaf_of_variable, nodes_with, nodes_with_variable, nodes_with_target, gives_way, has_target, StandsFor, StandForRow, HasLabel, Holds, NodesGrow, AreNodes}
 use Rattle.mars_graphs.specs.Making.{Making, nothing_made, with_leaf, made_over, closed_making, tied_nodes, defined_making, makes, makes_all, rooted, whole, IsMaking}
 use Rattle.mars_graphs.specs.MakingLaws.{MadeGraphSolves}
@@ -21,7 +21,7 @@ use Rattle.mars_graphs.proofs.Trees.{solution-of}
 use Rattle.mars_graphs.proofs.Makes.{making-nothing, making-step, variable-found}
 
 -- the leaf of the variable that is to be equal to the next term
-abbrev LeftAre : Nodes → Option ℕ → Option (List ℕ) → Type 0
+abbrev LeftAre : Nodes → Option ℕ → Option NameId → Type 0
 LeftAre b None None = Unit {0}
 LeftAre b (Some leaf) (Some x) = leaf_of_variable b x ≡ Some leaf
 LeftAre b None (Some x) = ⊥
@@ -39,7 +39,7 @@ record Tells (w : Writing) (m : Making) : Type 0 where
 terms-grown : (b c : Nodes) (terms : List ℕ) (sides : List Side) → NodesGrow b c → AllZip (StandsFor b) terms sides → AllZip (StandsFor c) terms sides
 terms-grown b c terms sides grows zip = zip-weaker (StandsFor b) (StandsFor c) (λ n t s. stands-grown b c n t grows s) terms sides zip
 
-left-after : (b c : Nodes) (left : Option ℕ) (x : Option (List ℕ)) → NodesGrow b c → LeftAre b left x → LeftAre c left x
+left-after : (b c : Nodes) (left : Option ℕ) (x : Option NameId) → NodesGrow b c → LeftAre b left x → LeftAre c left x
 left-after b c None None grows are = tt
 left-after b c (Some leaf) (Some x) grows are = leaf-grown b c x leaf grows are
 left-after b c None (Some x) grows are = absurd are
@@ -55,7 +55,7 @@ row-of b (kid ∷ kids) (t ∷ sides) zip = (kid, kids, refl, zip.0, row-of b ki
 tells-nothing : Tells nothing_written nothing_made
 tells-nothing = record { making = making-nothing; terms = tt; heads = refl; left = tt; holds = holds-nothing; twice = refl }
 
-tells-variable : (w : Writing) (m : Making) (x : List ℕ) → Tells w m → Tells (writes w (Variable x)) (makes m (Variable x))
+tells-variable : (w : Writing) (m : Making) (x : NameId) → Tells w m → Tells (writes w (Variable x)) (makes m (Variable x))
 tells-variable w m x t =
     let b = m.nodes in
     let c = nodes_with_variable b x in
@@ -117,23 +117,23 @@ tells-close : (w : Writing) (m : Making) → Tells w m → Tells (writes w Close
 tells-close w m t = subst (λ heads. Tells (closed_writing w heads) (closed_making m m.heads)) t.heads (tells-closed w m m.heads t (making-step m Close t.making))
 
 -- a variable has an equation exactly where its leaf gives way
-has-label : (x : List ℕ) (equations : List Equation) → HasLabel (equal_to equations x) → has_equation equations x ≡ true
+has-label : (x : NameId) (equations : List Equation) → HasLabel (equal_to equations x) → has_equation equations x ≡ true
 has-label x [] has = absurd has
-has-label x (e ∷ equations) has = at (bytes_eq x e.variable) has (has-label x equations)
+has-label x (e ∷ equations) has = at (same_variable x e.variable) has (has-label x equations)
   where
     at : (v : Bool) → HasLabel (if v then e.side else equal_to equations x) → (HasLabel (equal_to equations x) → has_equation equations x ≡ true) → (v || has_equation equations x) ≡ true
     at true has ih = refl
     at false has ih = ih has
 
-no-label : (x : List ℕ) (equations : List Equation) → All (λ e. HasLabel e.side) equations → equal_to equations x ≡ variable x → has_equation equations x ≡ false
+no-label : (x : NameId) (equations : List Equation) → All (λ e. HasLabel e.side) equations → equal_to equations x ≡ variable x → has_equation equations x ≡ false
 no-label x [] labels same = refl
-no-label x (e ∷ equations) labels same = at (bytes_eq x e.variable) same (no-label x equations (All-tail (λ e. HasLabel e.side) e equations labels))
+no-label x (e ∷ equations) labels same = at (same_variable x e.variable) same (no-label x equations (All-tail (λ e. HasLabel e.side) e equations labels))
   where
     at : (v : Bool) → (if v then e.side else equal_to equations x) ≡ variable x → (equal_to equations x ≡ variable x → has_equation equations x ≡ false) → (v || has_equation equations x) ≡ false
     at true same ih = absurd (subst HasLabel same (All-head (λ e. HasLabel e.side) e equations labels))
     at false same ih = ih same
 
-has-both : (b : Nodes) (x : List ℕ) (leaf : ℕ) (equations : List Equation) → AreNodes b → Holds b equations → leaf_of_variable b x ≡ Some leaf → gives_way b leaf ≡ has_equation equations x
+has-both : (b : Nodes) (x : NameId) (leaf : ℕ) (equations : List Equation) → AreNodes b → Holds b equations → leaf_of_variable b x ≡ Some leaf → gives_way b leaf ≡ has_equation equations x
 has-both b x leaf equations nodes holds found = at (gives_way b leaf) refl
   where
     target : has_target b x ≡ gives_way b leaf
@@ -143,7 +143,7 @@ has-both b x leaf equations nodes holds found = at (gives_way b leaf) refl
     at true gives = gives ∙ sym (has-label x equations (target-label b x equations nodes holds (target ∙ gives)))
     at false gives = gives ∙ sym (no-label x equations holds.applied (no-target-variable b x equations nodes holds (target ∙ gives)))
 
-tells-equate : (w : Writing) (m : Making) (x : List ℕ) → Tells w m → Tells (writes w (Equate x)) (makes m (Equate x))
+tells-equate : (w : Writing) (m : Making) (x : NameId) → Tells w m → Tells (writes w (Equate x)) (makes m (Equate x))
 tells-equate w m x t =
     let b = m.nodes in
     let c = nodes_with_variable b x in
@@ -158,30 +158,30 @@ tells-equate w m x t =
     }
 
 -- the equations after a term that may be one more of them
-record Equated (b c : Nodes) (left : Option ℕ) (x : Option (List ℕ)) (equations : List Equation) : Type 0 where
+record Equated (b c : Nodes) (left : Option ℕ) (x : Option NameId) (equations : List Equation) : Type 0 where
   grows : NodesGrow b c
   holds : Holds c equations
 
-label-leaf : (b : Nodes) (x : List ℕ) (n : ℕ) → AreNodes b → leaf_of_variable b x ≡ Some n → label_of b.nodes n ≡ None
+label-leaf : (b : Nodes) (x : NameId) (n : ℕ) → AreNodes b → leaf_of_variable b x ≡ Some n → label_of b.nodes n ≡ None
 label-leaf b x n nodes found = ap (λ (node : Node). node.label) (get_or_from_slice_get b.nodes n free_leaf free_leaf (nodes.free x n found))
 
 label-node : (b : Nodes) (l : Label) (kids : List ℕ) (n : ℕ) → slice_get b.nodes n ≡ Some (graph.labelled l kids) → label_of b.nodes n ≡ Some l
 label-node b l kids n node = ap (λ (m : Node). m.label) (get_or_from_slice_get b.nodes n (graph.labelled l kids) free_leaf node)
 
-grows-same : (b : Nodes) (equations : List Equation) (left : Option ℕ) (x : Option (List ℕ)) → Holds b equations → Equated b b left x equations
+grows-same : (b : Nodes) (equations : List Equation) (left : Option ℕ) (x : Option NameId) → Holds b equations → Equated b b left x equations
 grows-same b equations left x holds = record { grows = grows-target-not b; holds = holds }
   where
     grows-target-not : (b : Nodes) → NodesGrow b b
     grows-target-not b = record { nodes = ([], sym (append-nil b.nodes)); leaves = ([], sym (append-nil b.leaves)) }
 
-equated-unlabelled : (b : Nodes) (left : Option ℕ) (x : Option (List ℕ)) (y : List ℕ) (root : ℕ) (equations : List Equation) → Holds b equations → label_of b.nodes root ≡ None → Equated b (tied_nodes b left root (label_of b.nodes root)) left x equations
+equated-unlabelled : (b : Nodes) (left : Option ℕ) (x : Option NameId) (y : NameId) (root : ℕ) (equations : List Equation) → Holds b equations → label_of b.nodes root ≡ None → Equated b (tied_nodes b left root (label_of b.nodes root)) left x equations
 equated-unlabelled b left x y root equations holds none = subst (λ c. Equated b c left x equations) (sym (same left)) (grows-same b equations left x holds)
   where
     same : (left : Option ℕ) → tied_nodes b left root (label_of b.nodes root) ≡ b
     same None = refl
     same (Some leaf) = ap (tied_nodes b (Some leaf) root) none
 
-equated-labelled : (b : Nodes) (leaf : ℕ) (x : List ℕ) (l : Label) (sides : Sides) (root : ℕ) (equations : List Equation) → AreNodes b → Holds b equations → leaf_of_variable b x ≡ Some leaf → StandsFor b root (labelled l sides) →
+equated-labelled : (b : Nodes) (leaf : ℕ) (x : NameId) (l : Label) (sides : Sides) (root : ℕ) (equations : List Equation) → AreNodes b → Holds b equations → leaf_of_variable b x ≡ Some leaf → StandsFor b root (labelled l sides) →
     Equated b (if gives_way b leaf then b else nodes_with_target b leaf root) (Some leaf) (Some x) (if has_equation equations x then equations else equations ++ record { variable = x; side = labelled l sides } ∷ [])
 equated-labelled b leaf x l sides root equations nodes holds found stands =
     subst (λ v. Equated b (if gives_way b leaf then b else nodes_with_target b leaf root) (Some leaf) (Some x) (if v then equations else equations ++ record { variable = x; side = labelled l sides } ∷ [])) (has-both b x leaf equations nodes holds found) (at (gives_way b leaf) refl)
@@ -196,7 +196,7 @@ equated-labelled b leaf x l sides root equations nodes holds found stands =
       holds = holds-target b x leaf root (labelled l sides) equations nodes holds found (no-target-variable b x equations nodes holds (target ∙ gives)) stands tt;
     }
 
-equated : (b : Nodes) (left : Option ℕ) (x : Option (List ℕ)) (side : Side) (root : ℕ) (equations : List Equation) → AreNodes b → Holds b equations → LeftAre b left x → StandsFor b root side → Equated b (tied_nodes b left root (label_of b.nodes root)) left x (with_equation x side equations)
+equated : (b : Nodes) (left : Option ℕ) (x : Option NameId) (side : Side) (root : ℕ) (equations : List Equation) → AreNodes b → Holds b equations → LeftAre b left x → StandsFor b root side → Equated b (tied_nodes b left root (label_of b.nodes root)) left x (with_equation x side equations)
 equated b None None side root equations nodes holds are stands = grows-same b equations None None holds
 equated b None (Some x) side root equations nodes holds are stands = absurd are
 equated b (Some leaf) None side root equations nodes holds are stands = absurd are
@@ -248,19 +248,19 @@ record Root (b : Nodes) (root : ℕ) (side : Side) (equations : List Equation) :
   stands : StandsFor b root side
   holds : Holds b equations
 
-root-is : (m : Making) (w : Writing) (o : Option ℕ) (p : Option Side) → Tells w m → BothAre (StandsFor m.nodes) o p → p ≡ slice_get w.terms 0 → Root (rooted m o).0 (rooted m o).1 (slice_index_or w.terms 0 (variable [])) w.equations
+root-is : (m : Making) (w : Writing) (o : Option ℕ) (p : Option Side) → Tells w m → BothAre (StandsFor m.nodes) o p → p ≡ slice_get w.terms 0 → Root (rooted m o).0 (rooted m o).1 (slice_index_or w.terms 0 (variable no_variable)) w.equations
 root-is m w None None t both is = record {
-  nodes = nodes-variable m.nodes [] t.making.nodes;
-  stands = subst (StandsFor (nodes_with_variable m.nodes []) (with_leaf m.nodes []).1) (sym (first-none w.terms (sym is))) (variable-found m.nodes []);
-  holds = holds-variable m.nodes [] w.equations t.making.nodes t.holds;
+  nodes = nodes-variable m.nodes no_variable t.making.nodes;
+  stands = subst (StandsFor (nodes_with_variable m.nodes no_variable) (with_leaf m.nodes no_variable).1) (sym (first-none w.terms (sym is))) (variable-found m.nodes no_variable);
+  holds = holds-variable m.nodes no_variable w.equations t.making.nodes t.holds;
 }
   where
-    first-none : (sides : List Side) → slice_get sides 0 ≡ None → slice_index_or sides 0 (variable []) ≡ variable []
+    first-none : (sides : List Side) → slice_get sides 0 ≡ None → slice_index_or sides 0 (variable no_variable) ≡ variable no_variable
     first-none [] e = refl
     first-none (side ∷ sides) e = absurd (cc)
 root-is m w (Some n) (Some side) t both is = record {
   nodes = t.making.nodes;
-  stands = subst (StandsFor m.nodes n) (sym (get_or_from_slice_get w.terms 0 side (variable []) (sym is))) both;
+  stands = subst (StandsFor m.nodes n) (sym (get_or_from_slice_get w.terms 0 side (variable no_variable) (sym is))) both;
   holds = t.holds;
 }
 root-is m w None (Some side) t both is = absurd both

@@ -2,12 +2,12 @@
 use Rattle.std.proofs.Common.{◌≡◌, ℕ, zero, suc, List, [], ◌∷◌, map, refl, ap, sym, ◌∙◌, subst, Option, Some, None, inl, inr, ◌⊎◌, Bool, true, false, slice_get, slice_index_or}
 use Rattle.std.specs.Prelude.{All, if◌then◌else◌, ◌↔◌}
 use Rattle.std.specs.Option.{option_map, option_and_then}
-use Rattle.std.specs.Str.{bytes_eq}
 use Rattle.std.proofs.lemmas.List.Elements.{All-head, All-tail}
+use Rattle.mars_tree.specs.declared.label.NameId.{NameId}
 use Rattle.mars_tree.specs.Graph.{Node, kids_of, shown_at, stands, end_of, free_leaf}
 use Rattle.mars_tree.specs.Graph as graph
 use Rattle.mars_tree.specs.Walk.{walk}
-use Rattle.mars_graphs.specs.Systems.{Side, variable, labelled, Sides, no_sides, next_side, side_list, Equation, System, equal_to, opened, sides_under, label, free, tip_of, side_at, ShowsTip, IsSolution}
+use Rattle.mars_graphs.specs.Systems.{same_variable, Side, variable, labelled, Sides, no_sides, next_side, side_list, Equation, System, equal_to, opened, sides_under, label, free, tip_of, side_at, ShowsTip, IsSolution}
 use Rattle.mars_graphs.specs.Nodes.{Nodes, leaf_of_variable, target_of, target_among, StandsFor, StandForRow, HasLabel, Holds, tied, tied_graph, AreNodes}
 
 -- a node of a term that gives way to none
@@ -20,15 +20,15 @@ label-fixed equations (variable x) a = absurd a
 label-fixed equations (labelled l sides) a = refl
 
 -- a variable is equal to itself or to a labelled term
-pub equal-cases : (x : List ℕ) (equations : List Equation) → All (λ e. HasLabel e.side) equations → (equal_to equations x ≡ variable x) ⊎ HasLabel (equal_to equations x)
+pub equal-cases : (x : NameId) (equations : List Equation) → All (λ e. HasLabel e.side) equations → (equal_to equations x ≡ variable x) ⊎ HasLabel (equal_to equations x)
 equal-cases x [] a = inl refl
-equal-cases x (d ∷ equations) a = at (bytes_eq x d.variable) (equal-cases x equations (All-tail (λ e. HasLabel e.side) d equations a))
+equal-cases x (d ∷ equations) a = at (same_variable x d.variable) (equal-cases x equations (All-tail (λ e. HasLabel e.side) d equations a))
   where
     at : (v : Bool) → (equal_to equations x ≡ variable x) ⊎ HasLabel (equal_to equations x) → ((if v then d.side else equal_to equations x) ≡ variable x) ⊎ HasLabel (if v then d.side else equal_to equations x)
     at true rest = inr (All-head (λ e. HasLabel e.side) d equations a)
     at false rest = rest
 
-equal-fixed : (x : List ℕ) (equations : List Equation) → All (λ e. HasLabel e.side) equations → opened equations (equal_to equations x) ≡ equal_to equations x
+equal-fixed : (x : NameId) (equations : List Equation) → All (λ e. HasLabel e.side) equations → opened equations (equal_to equations x) ≡ equal_to equations x
 equal-fixed x equations a = elim (equal-cases x equations a) [ inl e ↦ ap (opened equations) e | inr has ↦ label-fixed equations (equal_to equations x) has ]
 
 pub target-final : (b : Nodes) (equations : List Equation) (n : ℕ) (t : Side) → AreNodes b → Holds b equations → StandsFor b n t → Final b equations (target_of b n) (opened equations t)
@@ -95,19 +95,19 @@ ends-agree b equations (Some n) None nodes e = absurd e
 ends-agree b equations None (Some w) nodes e = absurd e
 
 -- where a variable without an equation is
-record EndsAt (b : Nodes) (o : Option ℕ) (x : List ℕ) : Type 0 where
+record EndsAt (b : Nodes) (o : Option ℕ) (x : NameId) : Type 0 where
   leaf : ℕ
   ends : o ≡ Some leaf
   found : leaf_of_variable b x ≡ Some leaf
 
-free-end : (b : Nodes) (equations : List Equation) (o : Option ℕ) (p : Option Side) (x : List ℕ) → EndAlike b equations o p → option_map tip_of p ≡ Some (free x) → EndsAt b o x
+free-end : (b : Nodes) (equations : List Equation) (o : Option ℕ) (p : Option Side) (x : NameId) → EndAlike b equations o p → option_map tip_of p ≡ Some (free x) → EndsAt b o x
 free-end b equations None None x e s = absurd (cc)
 free-end b equations (Some n) (Some (variable y)) x e s = let same : y ≡ x = cc in record { leaf = n; ends = refl; found = ap (leaf_of_variable b) (sym same) ∙ e.stands }
 free-end b equations (Some n) (Some (labelled l sides)) x e s = absurd (cc)
 free-end b equations (Some n) None x e s = absurd e
 free-end b equations None (Some w) x e s = absurd e
 
-one-leaf : (b : Nodes) (o p : Option ℕ) (x y : List ℕ) → AreNodes b → EndsAt b o x → EndsAt b p y → (x ≡ y) ↔ (o ≡ p)
+one-leaf : (b : Nodes) (o p : Option ℕ) (x y : NameId) → AreNodes b → EndsAt b o x → EndsAt b p y → (x ≡ y) ↔ (o ≡ p)
 one-leaf b o p x y nodes l m = (there, back)
   where
     there : x ≡ y → o ≡ p

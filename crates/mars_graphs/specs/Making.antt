@@ -1,10 +1,11 @@
 -- What the steps of a tree make of nodes: the same as they write of terms.
 use Rattle.std.specs.Prelude.{◌≡◌, ℕ, ◌<◌, ◌-◌, ◌||◌, List, [], ◌∷◌, ◌++◌, length, take, drop, Option, Some, None, Bool, false, slice_get, if◌then◌else◌, All}
 use Rattle.mars_tree.specs.declared.label.Label.{Label}
+use Rattle.mars_tree.specs.declared.label.NameId.{NameId}
 use Rattle.mars_tree.specs.Graph.{Node, labelled, label_of}
 use Rattle.mars_graphs.specs.declared.maker.Head.{Head}
 use Rattle.mars_graphs.specs.Nodes.{Nodes, no_nodes, leaf_of_variable, target_of, nodes_with, nodes_with_variable, nodes_with_target, gives_way, AreNodes, tied_graph}
-use Rattle.mars_graphs.specs.Steps.{TreeStep, Variable, Leaf, Open, Close, Equate, Define, label_over, terms_before}
+use Rattle.mars_graphs.specs.Steps.{TreeStep, Variable, Leaf, Open, Close, Equate, Define, label_over, terms_before, no_variable}
 
 -- as `Writing`, with a node for each term and a leaf for each variable
 pub record Making : Type 0 where
@@ -23,7 +24,7 @@ leaf_or None = 0
 leaf_or (Some leaf) = leaf
 
 -- with the leaf of a variable
-abbrev pub with_leaf : Nodes → List ℕ → Nodes × ℕ
+abbrev pub with_leaf : Nodes → NameId → Nodes × ℕ
 with_leaf b x = (nodes_with_variable b x, leaf_or (leaf_of_variable (nodes_with_variable b x) x))
 
 -- the kids get a node with the label; without a label they stay
@@ -60,10 +61,10 @@ abbrev pub makes_all : Making → List TreeStep → Making
 makes_all m [] = m
 makes_all m (step ∷ steps) = makes_all (makes m step) steps
 
--- where there is no term, there is a leaf for a variable without a spelling
+-- where there is no term, there is a leaf for the variable with the first number
 abbrev pub rooted : Making → Option ℕ → Nodes × ℕ
 rooted m (Some root) = (m.nodes, root)
-rooted m None = with_leaf m.nodes []
+rooted m None = with_leaf m.nodes no_variable
 
 -- all nodes, and the node of the tree's own term
 abbrev pub whole : Making → Nodes × ℕ
@@ -79,7 +80,7 @@ made_root m = target_of (whole m).0 (whole m).1
 -- a leaf of some variable
 abbrev pub IsSomeLeaf : Nodes → Option ℕ → Type 0
 IsSomeLeaf b None = Unit {0}
-IsSomeLeaf b (Some leaf) = (x : List ℕ) × (leaf_of_variable b x ≡ Some leaf)
+IsSomeLeaf b (Some leaf) = (x : NameId) × (leaf_of_variable b x ≡ Some leaf)
 
 -- what holds of all that is made
 pub record IsMaking (m : Making) : Type 0 where

@@ -1,10 +1,9 @@
 -- What the fields of a maker of nodes hold.
-use Rattle.std.specs.Prelude.{map}
 use Rattle.mars_graphs.specs.declared.nodes.NodeMaker.TheInside.{Inside}
 use Rattle.mars_graphs.specs.Nodes.{Nodes, AreNodes}
 
 abbrev pub nodes_of : Inside → Nodes
-nodes_of b = record { nodes = b.graph; targets = b.targets.items; leaves = map (λ leaf. (leaf.0.items, leaf.1)) b.leaves.entries }
+nodes_of b = record { nodes = b.graph; targets = b.targets.items; leaves = b.leaves.entries }
 
 abbrev pub AreNodesInside : Inside → Type 0
 AreNodesInside b = AreNodes (nodes_of b)

@@ -1,16 +1,20 @@
 -- A written tree as a system of equations, and what its solution is.
-use Rattle.std.specs.Prelude.{◌≡◌, ◌↔◌, ℕ, List, [], ◌∷◌, map, Option, Some, None, if◌then◌else◌}
+use Rattle.std.specs.Prelude.{◌≡◌, ◌↔◌, ℕ, List, [], ◌∷◌, map, Option, Some, None, Bool, ◌==◌, if◌then◌else◌}
 use Rattle.std.specs.Option.{option_map}
-use Rattle.std.specs.Str.{bytes_eq}
 use Rattle.mars_tree.specs.declared.label.Label.{Label}
+use Rattle.mars_tree.specs.declared.label.NameId.{NameId}
 use Rattle.mars_tree.specs.Graph.{Node, Shown, end_of}
 use Rattle.mars_tree.specs.Graph as graph
 use Rattle.mars_tree.specs.Walk.{walk}
 
+-- variables are told apart by the numbers of their spellings
+abbrev pub same_variable : NameId → NameId → Bool
+same_variable x y = x.0 == y.0
+
 mutual
-  -- a term: a variable by its spelling, or a label over terms
+  -- a term: a variable, or a label over terms
   pub data Side : Type 0 where
-    variable : List ℕ → Side
+    variable : NameId → Side
     labelled : Label → Sides → Side
 
   -- a row of terms
@@ -30,7 +34,7 @@ side_row (side ∷ sides) = next_side side (side_row sides)
 
 -- a variable, and the term that it is equal to
 pub record Equation : Type 0 where
-  pub variable : List ℕ
+  pub variable : NameId
   pub side : Side
 
 -- a term, and the equations of its variables
@@ -39,9 +43,9 @@ pub record System : Type 0 where
   pub equations : List Equation
 
 -- what a variable is equal to: the term of its first equation, or itself
-abbrev pub equal_to : List Equation → List ℕ → Side
+abbrev pub equal_to : List Equation → NameId → Side
 equal_to [] x = variable x
-equal_to (e ∷ equations) x = if bytes_eq x e.variable then e.side else equal_to equations x
+equal_to (e ∷ equations) x = if same_variable x e.variable then e.side else equal_to equations x
 
 -- a term, where a variable alone gives way to what it is equal to
 abbrev pub opened : List Equation → Side → Side
@@ -56,7 +60,7 @@ sides_under equations (labelled l sides) = map (opened equations) (side_list sid
 -- what a term is at its root: a label, or a variable without an equation
 pub data Tip : Type 0 where
   label : Label → Tip
-  free : List ℕ → Tip
+  free : NameId → Tip
 
 -- the root of a term
 abbrev pub tip_of : Side → Tip
@@ -81,5 +85,5 @@ ShowsTip _ _ = ⊥
 -- the graph from the root is the solution: the same along every path, and one leaf for each variable that has no equation
 pub record IsSolution (system : System) (g : List Node) (root : ℕ) : Type 0 where
   pub shown : (path : List ℕ) → ShowsTip (tip_at system path) (graph.at g root path)
-  pub leaves : (path other : List ℕ) (x y : List ℕ) → tip_at system path ≡ Some (free x) → tip_at system other ≡ Some (free y) →
+  pub leaves : (path other : List ℕ) (x y : NameId) → tip_at system path ≡ Some (free x) → tip_at system other ≡ Some (free y) →
       (x ≡ y) ↔ (end_of g root path ≡ end_of g root other)

@@ -71,12 +71,12 @@ impl GraphMaker {
         }
     }
 
-    /// A variable, by its spelling.
-    pub fn variable(&mut self, spelling: &[u8]) -> Result<(), NoMemory>
-        ensures { OnOk result (self.new ≡ makes self.old (Variable spelling.now)) }
+    /// A variable, by the number of its spelling.
+    pub fn variable(&mut self, name: NameId) -> Result<(), NoMemory>
+        ensures { OnOk result (self.new ≡ makes self.old (Variable name)) }
     {
         self.terms.reserve(1)?;
-        let leaf = self.nodes.variable(spelling)?;
+        let leaf = self.nodes.variable(name)?;
         self.terms.push_reserved(leaf);
         Ok(())
     }
@@ -124,10 +124,10 @@ impl GraphMaker {
     }
 
     /// The variable of an equation.
-    pub fn equate(&mut self, spelling: &[u8]) -> Result<(), NoMemory>
-        ensures { OnOk result (self.new ≡ makes self.old (Equate spelling.now)) }
+    pub fn equate(&mut self, name: NameId) -> Result<(), NoMemory>
+        ensures { OnOk result (self.new ≡ makes self.old (Equate name)) }
     {
-        let leaf = self.nodes.variable(spelling)?;
+        let leaf = self.nodes.variable(name)?;
         self.left = Some(leaf);
         self.twice = self.twice || self.nodes.gives_way(leaf);
         Ok(())
@@ -160,7 +160,7 @@ impl GraphMaker {
     {
         let root = match self.terms.first() {
             Some(root) => *root,
-            None => self.nodes.variable(&[])?,
+            None => self.nodes.variable(NameId(0))?,
         };
         Ok(self.nodes.finish(root))
     }

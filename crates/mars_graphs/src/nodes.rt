@@ -1,5 +1,6 @@
 //! The nodes of a tree that is being written: one for each term, with one leaf for each variable.
 ghost use Rattle.std.specs.Prelude.{◌≡◌, ◌<◌, ◌||◌, List, ℕ, None, Some, length, not, map, Bool, IfOk, OnOk, OnErr, IfSome, All};
+ghost use Rattle.mars_tree.specs.declared.label.NameId.{NameId};
 ghost use Rattle.mars_tree.specs.Label.{arity_of};
 ghost use Rattle.mars_tree.specs.Graph.{labelled, label_of};
 ghost use Rattle.mars_graphs.specs.Making.{tied_nodes};
@@ -8,17 +9,16 @@ ghost use Rattle.mars_graphs.specs.Nodes.{no_nodes, AreNodes, leaf_of_variable, 
 use crate::redirect::{redirect, set_kids};
 use indexmap::IndexMap;
 use mars_base::NoMemory;
-use mars_tree::{Graph, Label};
+use mars_tree::{Graph, Label, NameId};
 use std::alloc::Global;
 use std::marker::Model;
 
 /// The nodes so far. A leaf of a variable gives way to another node once the variable has an equation.
 #[derive(Drop)]
 pub(crate) struct NodeMaker {
-    alloc: Global,
     graph: Graph,
     targets: Vec<usize>,
-    leaves: IndexMap<Vec<u8>, usize>,
+    leaves: IndexMap<NameId, usize>,
 }
 
 impl Model for NodeMaker {
@@ -39,7 +39,6 @@ impl NodeMaker {
         ensures { result ≡ no_nodes }
     {
         NodeMaker {
-            alloc,
             graph: Graph::new(alloc),
             targets: Vec::new(alloc),
             leaves: IndexMap::new(alloc),
@@ -47,41 +46,40 @@ impl NodeMaker {
     }
 
     /// The leaf of a variable, if it has one.
-    fn leaf(&self, spelling: &[u8]) -> Option<usize>
-        ensures leaf { result ≡ leaf_of_variable self.now spelling.now }
+    fn leaf(&self, name: NameId) -> Option<usize>
+        ensures leaf { result ≡ leaf_of_variable self.now name }
         ensures in_range { IfSome result (λ n. n < length self.now.nodes) }
     {
-        self.leaves.get(spelling).copied()
+        self.leaves.get(&name).copied()
     }
 
     /// The leaf of a variable, which is new where the variable is.
-    pub(crate) fn variable(&mut self, spelling: &[u8]) -> Result<usize, NoMemory>
-        ensures leaf { IfOk result (λ n. leaf_of_variable self.new spelling.now ≡ Some n) }
+    pub(crate) fn variable(&mut self, name: NameId) -> Result<usize, NoMemory>
+        ensures leaf { IfOk result (λ n. leaf_of_variable self.new name ≡ Some n) }
         ensures in_range { IfOk result (λ n. n < length self.new.nodes) }
-        ensures ok { OnOk result (self.new ≡ nodes_with_variable self.old spelling.now) }
+        ensures ok { OnOk result (self.new ≡ nodes_with_variable self.old name) }
         ensures err { OnErr result (self.new ≡ self.old) }
         ensures nodes { AreNodes self.old }
     {
         let _known = &self.targets;
-        match self.leaf(spelling) {
+        match self.leaf(name) {
             Some(leaf) => Ok(leaf),
-            None => self.add_variable(spelling),
+            None => self.add_variable(name),
         }
     }
 
     /// A leaf for a new variable.
-    fn add_variable(&mut self, spelling: &[u8]) -> Result<usize, NoMemory>
-        requires { leaf_of_variable self.old spelling.now ≡ None }
-        ensures leaf { IfOk result (λ n. leaf_of_variable self.new spelling.now ≡ Some n) }
+    fn add_variable(&mut self, name: NameId) -> Result<usize, NoMemory>
+        requires { leaf_of_variable self.old name ≡ None }
+        ensures leaf { IfOk result (λ n. leaf_of_variable self.new name ≡ Some n) }
         ensures in_range { IfOk result (λ n. n < length self.new.nodes) }
-        ensures ok { OnOk result (self.new ≡ nodes_with_variable self.old spelling.now) }
+        ensures ok { OnOk result (self.new ≡ nodes_with_variable self.old name) }
         ensures err { OnErr result (self.new ≡ self.old) }
     {
-        let key = Vec::from_slice(self.alloc, spelling)?;
         self.targets.reserve(1)?;
         self.leaves.reserve(1)?;
         let leaf = self.graph.add_free()?;
-        self.leaves.insert(key, leaf)?;
+        self.leaves.insert(name, leaf)?;
         self.targets.push_reserved(leaf);
         Ok(leaf)
     }
@@ -121,7 +119,7 @@ impl NodeMaker {
 
     /// From now on a variable's leaf gives way to a labelled root, unless it gives way already.
     pub(crate) fn tie(&mut self, leaf: usize, root: usize)
-        requires leaf { (x : List ℕ) × (leaf_of_variable self.old x ≡ Some leaf) }
+        requires leaf { (x : NameId) × (leaf_of_variable self.old x ≡ Some leaf) }
         requires root { root < length self.old.nodes }
         ensures { self.new ≡ tied_nodes self.old (Some leaf) root (label_of self.old.nodes root) }
     {
@@ -142,7 +140,6 @@ impl NodeMaker {
         ensures root_in { result.1 < length result.0 }
     {
         let NodeMaker {
-            alloc: _,
             mut graph,
             targets,
             leaves: _,

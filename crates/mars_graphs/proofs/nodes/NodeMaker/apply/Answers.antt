@@ -6,7 +6,7 @@ use Rattle.mars_graphs.specs.NodesInside.{nodes_of}
 use Rattle.mars_graphs.proofs.Building.{nodes-node, nodes-is, kids_set-last}
 use Rattle.mars_graphs.proofs.nodes.NodeMaker.apply.Goals as goal
 
-added : (c : goal.After-push_reserved) → nodes_of (record { alloc = c.self.inside.alloc; graph = c.set_kids.new.graph; targets = c.push_reserved.new.self; leaves = c.self.inside.leaves }) ≡ nodes_with (nodes_of c.self.inside) (labelled c.args.label c.args.kids.now)
+added : (c : goal.After-push_reserved) → nodes_of (record { graph = c.set_kids.new.graph; targets = c.push_reserved.new.self; leaves = c.self.inside.leaves }) ≡ nodes_with (nodes_of c.self.inside) (labelled c.args.label c.args.kids.now)
 added c = nodes-is _ _ _ _ _ _
     (c.set_kids.ensures ∙ ap (λ g. kids_set g c.in_ok-node.node c.args.kids.now) c.in_ok-node.ensures.ok
     ∙ kids_set-last c.self.inside.graph c.args.label (replicate (arity_of c.args.label) (length c.self.inside.graph)) c.args.kids.now c.in_ok-node.node c.in_ok-node.ensures.node)
