@@ -423,9 +423,9 @@ first_tell g h parts others outside numbers n m nodes beside key other left righ
       (
         λ e. record { left = a; right = b; left_in = a_in; right_in = b_in; same = trees.0 e },
         λ s. trees.1 (in_step g h parts others outside numbers n m left right tell a b first.all second.all
-        (all_shared g h parts others n m first.all second.all left right s first.members second.members)
-        (all_shared h g others parts m n second.all first.all right left (share_turned g h parts others n m s) second.members first.members)
-        first.narrows second.narrows),
+            (all_shared g h parts others n m first.all second.all left right s first.members second.members)
+            (all_shared h g others parts m n second.all first.all right left (share_turned g h parts others n m s) second.members first.members)
+            first.narrows second.narrows),
       ),
       λ e. zip_weaker (IsTwin g h) (λ x y. Same g x h y) (λ x y t. t.same) nodes beside
           (twin_zip g h parts others outside numbers a b nodes beside left right a_in.within b_in.within from first.is.order second.is.order (trees.0 e)),
