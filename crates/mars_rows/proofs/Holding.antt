@@ -1,5 +1,5 @@
 -- What is added to a table, by the tests for the limit, and what holds of rows that were swept or found.
-use Rattle.std.proofs.Common.{◌≡◌, ◌≢◌, ℕ, zero, suc, ◌<◌, ◌≤◌, ◌+◌, Bool, true, false, cond, not, nat_lt, nat_eq, List, [], ◌∷◌, length, map, Option, Some, None, slice_get, refl, sym, subst, ap, ◌∙◌, arith, inl, inr, All, Contains, eq-eqb}
+use Rattle.std.proofs.Common.{◌≡◌, ◌≢◌, ℕ, zero, suc, ◌<◌, ◌≤◌, ◌+◌, ◌^◌, true, false, cond, not, nat_lt, nat_eq, List, [], ◌∷◌, length, map, Some, slice_get, refl, sym, subst, ap, ◌∙◌, arith, inl, inr, All, Contains, eq-eqb}
 use Rattle.std.specs.Option.{option_map}
 use Rattle.std.specs.List.{AllByRecursion, IsDistinct}
 use Rattle.std.proofs.lemmas.Bool.{false≢true, cases_lt}
@@ -8,11 +8,13 @@ use Rattle.std.proofs.lemmas.Option.{same_Some, slice_get-map}
 use Rattle.std.proofs.lemmas.List.Elements.{All-weaker, All-contains}
 use Rattle.mars_base.proofs.ListFacts.{All-get, All-from_gets, get-Contains}
 use Rattle.mars_tree.specs.Graph.{Node}
+use Rattle.mars_canon.specs.Tree.{most_nodes}
 use Rattle.mars_rows.specs.FreshInside.{fresh_nodes}
+use Rattle.mars_rows.specs.IndexInside.{Pair, IsRowIndex}
 use Rattle.mars_rows.specs.Rows.{Row, HasRow}
 use Rattle.mars_rows.specs.Object.{TableObject, fresh_before, row_number, sweep}
 use Rattle.mars_rows.specs.RowsInside.{rows_of}
-use Rattle.mars_rows.specs.RowsObject.{fits, table_for, with_tree, Adding, root, too_many, add, add_to}
+use Rattle.mars_rows.specs.RowsObject.{fits, with_tree, root, too_many, add, add_to}
 use Rattle.mars_rows.specs.Sound.{IsSound}
 use Rattle.mars_rows.specs.StockInside.{number_of_node, under, stock_rows, IsStock}
 use Rattle.mars_rows.specs.TreeGraph.{IsTreeGraph}
@@ -91,3 +93,14 @@ sound_stock g ns is pins next cap below pinned within = record {
   limit = omega (arith, within, length-stock g ns is);
   apart = apart_stock g ns is;
 }
+
+-- an index stays where rows and entries do
+pub same_index : (g h : List Node) (ns ms : List ℕ) (entries others : List Pair) → h ≡ g → ms ≡ ns → others ≡ entries → IsRowIndex (stock_rows g ns) entries → IsRowIndex (stock_rows h ms) others
+same_index g h ns ms entries others nodes numbers same is =
+    subst (λ (x : List Node). IsRowIndex (stock_rows x ms) others) (sym nodes) (subst (λ (xs : List ℕ). IsRowIndex (stock_rows g xs) others) (sym numbers) (subst (IsRowIndex (stock_rows g ns)) (sym same) is))
+
+-- the next number stays small
+pub still_small : (next count : ℕ) (tree : List Node) → next < 2 ^ 127 → length tree ≤ most_nodes → count ≤ length tree → next + count < 2 ^ 127 + 2 ^ 64
+still_small next count tree small few le =
+    let most : most_nodes ≡ 16384 = refl in
+    omega arith

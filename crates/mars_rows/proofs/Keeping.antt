@@ -1,14 +1,12 @@
 -- Nodes that walks from pins meet, as rows of their own.
-use Rattle.std.proofs.Common.{◌≡◌, ◌≢◌, ℕ, zero, suc, ◌<◌, ◌≤◌, ◌+◌, Bool, true, false, cond, nat_eq, List, [], ◌∷◌, ◌++◌, length, map, filter, Option, Some, None, option_and_then, slice_get, get_or, refl, sym, subst, ap, ◌∙◌, arith, inl, inr, All, IsSome, Contains, append-nil}
+use Rattle.std.proofs.Common.{◌≡◌, ℕ, zero, suc, ◌<◌, ◌≤◌, ◌+◌, Bool, true, false, cond, nat_eq, List, [], ◌∷◌, ◌++◌, length, map, filter, Option, Some, None, slice_get, get_or, refl, sym, ap, ◌∙◌, arith, inl, inr, append-nil}
 use Rattle.std.specs.Option.{option_map}
 use Rattle.std.specs.List.{cons_option, filter_map, list_any, range_with_len}
 use Rattle.std.proofs.lemmas.Bool.{false≢true, cases_eq}
-use Rattle.std.proofs.lemmas.Option.{same_Some, option_and_then_some, slice_get-map, slice_get_within, get_or_from_slice_get, slice_get-get_or}
-use Rattle.mars_base.proofs.ListFacts.{All-get, All-from_gets, Contains-get, get-Contains}
+use Rattle.std.proofs.lemmas.Option.{same_Some}
 use Rattle.mars_tree.specs.declared.label.Label.{Label}
-use Rattle.mars_tree.specs.Graph.{Node, IsGraph, IsGround, label_of, kids_of, free_leaf, end_of}
+use Rattle.mars_tree.specs.Graph.{Node, label_of, kids_of, free_leaf}
 use Rattle.mars_tree.specs.Renumbered.{renumbered_node, renumbered}
-use Rattle.mars_tree.proofs.CallerLemmas.{kid_in, end_in}
 use Rattle.mars_rows.specs.Rows.{Row}
 use Rattle.mars_rows.specs.RowsInside.{as_row, rows_from, rows_of}
 use Rattle.mars_rows.specs.StockInside.{under}
@@ -16,7 +14,7 @@ use Rattle.std.proofs.lemmas.List.Elements.{filter-append}
 use Rattle.mars_reach.specs.Order.{with_number}
 use Rattle.mars_rows.proofs.FreshRows.{in_range_of, range_more}
 use Rattle.mars_rows.proofs.Stored.{stored_number}
-use Rattle.mars_rows.proofs.Swept.{Has, any_is, is_any}
+use Rattle.mars_rows.proofs.Swept.{Has, any_is}
 
 pub same_bool : (a b : Bool) → (a ≡ true → b ≡ true) → (b ≡ true → a ≡ true) → a ≡ b
 same_bool true b f h = sym (f refl)

@@ -1,30 +1,27 @@
 -- Nodes under numbers as rows: closed, apart, and what becomes of them where a tree is added and where walks from pins leave some.
-use Rattle.std.proofs.Common.{◌≡◌, ◌≢◌, ℕ, zero, suc, ◌<◌, ◌≤◌, ◌+◌, ◌-◌, Bool, true, false, cond, nat_eq, List, [], ◌∷◌, ◌++◌, length, map, filter, Option, Some, None, option_and_then, slice_get, get_or, refl, sym, subst, ap, ◌∙◌, arith, inl, inr, All, IsSome, Contains, length-append}
+use Rattle.std.proofs.Common.{◌≡◌, ℕ, ◌<◌, ◌≤◌, ◌+◌, ◌-◌, List, [], ◌∷◌, ◌++◌, length, map, Option, Some, None, option_and_then, slice_get, refl, sym, subst, ap, ◌∙◌, arith, inl, inr, All, Contains, length-append}
 use Rattle.std.specs.Option.{option_map}
-use Rattle.std.specs.List.{IsDistinct, list_any, range_with_len}
-use Rattle.std.proofs.lemmas.Bool.{false≢true, cases_order, cases_lt}
-use Rattle.std.proofs.lemmas.Option.{same_Some, option_and_then_some, slice_get-map, slice_get_within, get_or_from_slice_get, slice_get-get_or}
-use Rattle.std.proofs.lemmas.List.{length-map, map-append, get_or-map}
+use Rattle.std.specs.List.{range_with_len}
+use Rattle.std.proofs.lemmas.Bool.{cases_order, cases_lt}
+use Rattle.std.proofs.lemmas.Option.{get_or_from_slice_get, slice_get-get_or}
+use Rattle.std.proofs.lemmas.List.{length-map, map-append}
 use Rattle.std.proofs.lemmas.List.FromFn.{length-range_with_len, get_or-range_with_len}
 use Rattle.std.proofs.lemmas.List.Elements.{All-weaker, All-append}
 use Rattle.mars_base.proofs.ListFacts.{All-get, All-from_gets, Contains-get, get-Contains, get-append_before, get-append_after, map-same}
-use Rattle.mars_tree.specs.Graph.{Node, IsGraph, IsGround, label_of, kids_of, end_of, Same}
-use Rattle.mars_tree.proofs.CallerLemmas.{kid_in, end_in}
-use Rattle.mars_rows.specs.Rows.{Row, row_at, HasRow, row_end, tree_of}
+use Rattle.mars_tree.specs.Graph.{Node, IsGraph, IsGround, kids_of, end_of}
+use Rattle.mars_tree.proofs.CallerLemmas.{kid_in}
+use Rattle.mars_rows.specs.Rows.{Row, HasRow, row_end, tree_of}
 use Rattle.mars_rows.specs.Finding.{find_row}
-use Rattle.mars_rows.specs.Object.{TableObject, fresh_before, row_number, fresh_rows}
-use Rattle.mars_rows.specs.Sound.{AreClosed, IsApart, IsSound}
+use Rattle.mars_rows.specs.Object.{fresh_before, row_number, fresh_rows}
+use Rattle.mars_rows.specs.Sound.{AreClosed, IsApart}
 use Rattle.mars_rows.specs.RowsInside.{rows_of}
 use Rattle.mars_rows.specs.StockInside.{number_of_node, under, stock_rows, NumbersRise, IsStock}
 use Rattle.mars_rows.specs.TreeGraph.{IsTreeGraph}
-use Rattle.mars_rows.proofs.Distinct.{numbers, apart_from}
-use Rattle.mars_rows.proofs.Found.{option_map_some}
 use Rattle.mars_rows.proofs.FreshRows.{in_range_of}
-use Rattle.mars_rows.proofs.Grown.{grown_apart, fresh_within}
+use Rattle.mars_rows.proofs.Grown.{grown_apart}
 use Rattle.mars_rows.proofs.Pinned.{own_row}
-use Rattle.mars_rows.proofs.RowFacts.{some_of}
-use Rattle.mars_rows.proofs.Stored.{closed_stored, apart_stored, has_stored, stored_in, below_stored, kids_stored, tree_stored, length-stored}
-use Rattle.mars_rows.proofs.Under.{has_under, old_of, end_under, tree_under, closed_under, apart_under, find_under, fresh_under, number_under, rows_under, map-twice}
+use Rattle.mars_rows.proofs.Stored.{closed_stored, apart_stored, has_stored, stored_in, kids_stored, length-stored}
+use Rattle.mars_rows.proofs.Under.{has_under, old_of, end_under, tree_under, closed_under, apart_under, find_under, fresh_under, number_under, rows_under}
 use Rattle.mars_rows.proofs.WithFresh.{HasGrown}
 
 -- numbers that rise are one where their places are

@@ -1,14 +1,13 @@
 -- The rows that a sweep leaves are the nodes that walks from pins meet.
-use Rattle.std.proofs.Common.{◌≡◌, ◌≢◌, ℕ, suc, zero, ◌<◌, ◌≤◌, ◌+◌, Bool, true, nat_eq, cond, List, [], ◌∷◌, length, map, filter, Option, Some, None, slice_get, get_or, refl, sym, subst, ap, ◌∙◌, arith, inl, inr, All, IsSome, Contains}
+use Rattle.std.proofs.Common.{◌≡◌, ◌≢◌, ℕ, ◌<◌, ◌≤◌, Bool, true, nat_eq, cond, List, [], ◌∷◌, length, map, filter, Option, Some, None, slice_get, get_or, sym, subst, ap, ◌∙◌, arith, inl, inr, All, IsSome, Contains}
 use Rattle.std.specs.Option.{option_map}
 use Rattle.std.specs.List.{list_any, range_with_len}
 use Rattle.std.proofs.lemmas.Bool.{cases_order}
-use Rattle.std.proofs.lemmas.Option.{same_Some, option_and_then_some, slice_get-map, slice_get_within, get_or_from_slice_get, slice_get-get_or}
+use Rattle.std.proofs.lemmas.Option.{same_Some, option_and_then_some, slice_get-map, get_or_from_slice_get, slice_get-get_or}
 use Rattle.std.proofs.lemmas.List.{length-map}
 use Rattle.std.proofs.lemmas.List.Elements.{All-weaker, All-map, All-contains}
 use Rattle.mars_base.proofs.ListFacts.{All-get, All-from_gets, Contains-get, get-Contains, map-same}
-use Rattle.mars_tree.specs.Graph.{Node, IsGraph, IsGround, label_of, kids_of, end_of}
-use Rattle.mars_tree.specs.Canonical.{IsReduced}
+use Rattle.mars_tree.specs.Graph.{Node, IsGraph, label_of, kids_of, end_of}
 use Rattle.mars_tree.specs.Renumbered.{renumbered_node, renumbered}
 use Rattle.mars_tree.proofs.CallerLemmas.{kid_in, end_in, label_in}
 use Rattle.mars_reach.specs.Order.{AreDistinct, IsReached, place_in}
@@ -20,13 +19,13 @@ use Rattle.mars_rows.specs.Rows.{Row, row_at, HasRow, row_end}
 use Rattle.mars_rows.specs.Object.{TableObject, is_met, sweep}
 use Rattle.mars_rows.specs.Sound.{IsMet}
 use Rattle.mars_rows.specs.RowsInside.{rows_of}
-use Rattle.mars_rows.specs.StockInside.{number_of_node, under, stock_rows, NumbersRise, IsStock, in_order, AreKept}
+use Rattle.mars_rows.specs.StockInside.{number_of_node, under, stock_rows, IsStock, AreKept}
 use Rattle.mars_rows.proofs.Found.{option_map_some}
 use Rattle.mars_rows.proofs.FreshRows.{in_range_of}
 use Rattle.mars_rows.proofs.Keeping.{same_bool, kept_by, was_kept, range_has, kept_rise, kept_rows}
 use Rattle.mars_rows.proofs.Pinned.{passes}
 use Rattle.mars_rows.proofs.Stocked.{rising_one, closed_stock, has_stock, contains_stock, end_stock}
-use Rattle.mars_rows.proofs.Swept.{Has, any_is, is_any, row_at-filter, sweep_means}
+use Rattle.mars_rows.proofs.Swept.{any_is, is_any, row_at-filter, sweep_means}
 use Rattle.mars_rows.proofs.Under.{map-twice}
 
 -- what closed nodes lead to is among them

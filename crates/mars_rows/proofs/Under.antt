@@ -1,8 +1,8 @@
 -- Rows under other numbers: the same trees, found under the new numbers.
-use Rattle.std.proofs.Common.{◌≡◌, ℕ, zero, suc, ◌<◌, ◌≤◌, ◌+◌, Bool, true, false, cond, nat_eq, is_none, List, [], ◌∷◌, ◌++◌, length, map, Option, Some, None, unwrap_or, option_and_then, slice_get, find, refl, sym, subst, ap, ◌∙◌, arith, inl, inr, All, IsSome, eq-eqb, ne_eqb}
+use Rattle.std.proofs.Common.{◌≡◌, ℕ, zero, suc, ◌<◌, ◌≤◌, ◌+◌, Bool, true, false, cond, nat_eq, is_none, List, [], ◌∷◌, length, map, Option, Some, None, unwrap_or, option_and_then, slice_get, find, refl, sym, subst, ap, ◌∙◌, arith, inl, inr, All, IsSome, eq-eqb, ne_eqb}
 use Rattle.std.specs.Option.{option_map}
 use Rattle.std.specs.List.{filter_map, cons_option, range_with_len}
-use Rattle.std.proofs.lemmas.Bool.{false≢true, cases_eq}
+use Rattle.std.proofs.lemmas.Bool.{cases_eq}
 use Rattle.std.proofs.lemmas.Option.{same_Some, slice_get-map}
 use Rattle.std.proofs.lemmas.List.{length-map}
 use Rattle.mars_base.proofs.ListFacts.{All-get, All-from_gets, map-same}

@@ -13,6 +13,8 @@ pub mod Met
 pub mod Examples
 -- Inside: the code's own steps, promised to nobody.
 pub mod FreshInside
+pub mod HeadsInside
+pub mod IndexInside
 pub mod RowsInside
 pub mod StockInside
 pub mod StoreInside

@@ -2,9 +2,10 @@
 #![tactic(auto)]
 
 mod growth;
+mod heads;
+mod index;
 mod laws;
 mod marks;
-mod search;
 mod stock;
 mod store;
 

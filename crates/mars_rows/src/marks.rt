@@ -2,9 +2,11 @@
 ghost use Rattle.std.specs.Prelude.{◌≡◌, ℕ, ◌<◌, ◌≤◌, length, map, IfOk, OnOk, Contains, All, nat_eq, slice_index_or, filter, false};
 ghost use Rattle.std.specs.List.{list_any, range_with_len};
 ghost use Rattle.mars_reach.specs.Order.{IsReach};
+ghost use Rattle.mars_rows.specs.IndexInside.{IsRowIndex};
 ghost use Rattle.mars_rows.specs.Object.{is_met};
 ghost use Rattle.mars_rows.specs.StockInside.{number_of_node, stock_rows, NumbersRise, AreKept, IsStock, in_order};
 
+use crate::index::index_of;
 use crate::stock::{Stock, place_of};
 use mars_base::NoMemory;
 use mars_reach::{Order, part, reached};
@@ -81,6 +83,7 @@ pub(crate) fn swept(alloc: Global, stock: &Stock, pins: &[(u32, u128)]) -> Resul
     requires pinned { All (λ pin. Contains stock.now.numbers.items pin.1) pins.now }
     ensures rows { IfOk result (λ left. stock_rows left.nodes left.numbers.items ≡ filter (λ row. is_met (record { rows = stock_rows stock.now.nodes stock.now.numbers.items; pins = pins.now; next = 0; limit = 0 }) row.number) (stock_rows stock.now.nodes stock.now.numbers.items)) }
     ensures stock { IfOk result (λ left. IsStock left.nodes left.numbers.items) }
+    ensures index { IfOk result (λ left. IsRowIndex (stock_rows left.nodes left.numbers.items) left.index.entries) }
     ensures among { IfOk result (λ left. All (Contains stock.now.numbers.items) left.numbers.items) }
     ensures pinned { IfOk result (λ left. All (λ pin. Contains left.numbers.items pin.1) pins.now) }
     ensures fewer { IfOk result (λ left. length left.nodes ≤ length stock.now.nodes) }
@@ -89,5 +92,10 @@ pub(crate) fn swept(alloc: Global, stock: &Stock, pins: &[(u32, u128)]) -> Resul
     let order = kept_nodes(alloc, &stock.nodes, &roots)?;
     let nodes = part(alloc, &stock.nodes, &order)?;
     let numbers = numbers_of(alloc, &stock.numbers, &order)?;
-    Ok(Stock { nodes, numbers })
+    let index = index_of(alloc, &nodes, &numbers)?;
+    Ok(Stock {
+        nodes,
+        numbers,
+        index,
+    })
 }

@@ -8,14 +8,18 @@ ghost use Rattle.mars_rows.specs.StockInside.{number_of_node, stock_rows, Number
 ghost use Rattle.mars_rows.specs.TreeGraph.{IsTreeGraph};
 
 use crate::growth::Numbered;
+use indexmap::IndexMap;
 use mars_base::NoMemory;
+use mars_comp::Key;
 use mars_tree::Graph;
 
-/// The nodes of rows, in the order of their numbers, and these numbers.
+/// The nodes of rows, in the order of their numbers, these numbers, and the index: a key of each component among the rows
+/// leads to the numbers of the rows at its places.
 #[derive(Drop)]
 pub(crate) struct Stock {
     pub(crate) nodes: Graph,
     pub(crate) numbers: Vec<u128>,
+    pub(crate) index: IndexMap<Key, Vec<u128>>,
 }
 
 /// Puts so many numbers, counted up from the next one, after numbers that have room for them.
@@ -64,6 +68,7 @@ pub(crate) fn append(
     ensures count { OnOk result (length stock.new.nodes ≡ length stock.old.nodes + fresh_before (stock_rows stock.old.nodes stock.old.numbers.items) tree.now (length tree.now)) }
     ensures root { IfOk result (λ number. number ≡ row_number (stock_rows stock.old.nodes stock.old.numbers.items) next tree.now 0) }
     ensures root_in { IfOk result (λ number. Contains stock.new.numbers.items number) }
+    ensures index { stock.new.index ≡ stock.old.index }
     ensures nodes_before { OnErr result (stock.new.nodes ≡ stock.old.nodes) }
     ensures numbers_before { OnErr result (stock.new.numbers.items ≡ stock.old.numbers.items) }
 {

@@ -8,10 +8,11 @@ ghost use Rattle.mars_rows.specs.Object.{empty_table, sweep, swept as swept_coun
 ghost use Rattle.mars_rows.specs.RowsObject.{AddsTree, HasRoot, fits, with_pin, without_pin, without_first};
 ghost use Rattle.mars_rows.specs.Sound.{IsSound};
 
-use crate::growth::number_nodes;
+use crate::growth::{grow, number_nodes};
+use crate::index::find_number;
 use crate::marks::swept;
-use crate::search::find;
-use crate::stock::{Stock, append};
+use crate::stock::Stock;
+use indexmap::IndexMap;
 use mars_base::NoMemory;
 use mars_canon::Tree;
 use mars_tree::Graph;
@@ -58,6 +59,7 @@ impl Rows {
             stock: Stock {
                 nodes: Graph::new(alloc),
                 numbers: Vec::new(alloc),
+                index: IndexMap::new(alloc),
             },
             pins: Vec::new(alloc),
             next: 0,
@@ -118,9 +120,9 @@ impl Rows {
         ensures err { OnErr result (self.new.table ≡ self.old.table) }
     {
         self.pins.reserve(1)?;
-        let numbered = number_nodes(self.alloc, &self.stock.nodes, tree)?;
+        let numbered = number_nodes(self.alloc, &self.stock, self.next, tree)?;
         if is_within(self.stock.nodes.len(), numbered.fresh.len(), self.cap) {
-            let root = append(&mut self.stock, self.next, tree, &numbered)?;
+            let root = grow(self.alloc, &mut self.stock, self.next, tree, &numbered)?;
             self.next += numbered.fresh.len() as u128;
             return Ok(Added::Root(root));
         }
@@ -139,14 +141,14 @@ impl Rows {
         ensures err { OnErr result (self.new.table ≡ self.old.table) }
     {
         let mut left = swept(self.alloc, &self.stock, &self.pins)?;
-        let numbered = number_nodes(self.alloc, &left.nodes, tree)?;
+        let numbered = number_nodes(self.alloc, &left, self.next, tree)?;
         if !is_within(left.nodes.len(), numbered.fresh.len(), self.cap) {
             return Ok(Added::Full {
                 rows: left.nodes.len() as u64,
                 fresh: numbered.fresh.len() as u64,
             });
         }
-        let root = append(&mut left, self.next, tree, &numbered)?;
+        let root = grow(self.alloc, &mut left, self.next, tree, &numbered)?;
         self.next += numbered.fresh.len() as u128;
         self.stock = left;
         Ok(Added::Root(root))
@@ -159,10 +161,7 @@ impl Rows {
     {
         let _count = tree.len();
         let canon = tree.canon()?;
-        match find(self.alloc, &self.stock.nodes, canon.graph(), node)? {
-            Some(place) => Ok(Some(self.stock.numbers[place])),
-            None => Ok(None),
-        }
+        find_number(self.alloc, &self.stock, self.next, canon.graph(), node)
     }
 
     /// The rows that no walk from a pin meets go. Gives how many. `NoMemory` changes nothing.

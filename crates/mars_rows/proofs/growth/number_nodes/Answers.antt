@@ -1,46 +1,35 @@
-use Rattle.std.proofs.Common.{◌≡◌, ℕ, ◌+◌, List, length, map, Some, None, ap, sym, ◌∙◌, arith, rules, [], ◌∷◌, ◌++◌}
-use Rattle.std.specs.List.{range_with_len}
-use Rattle.mars_rows.specs.Finding.{find_row}
-use Rattle.mars_rows.specs.Object.{row_number}
-use Rattle.mars_rows.specs.Rows.{Row}
-use Rattle.mars_rows.specs.RowsInside.{rows_of}
-use Rattle.mars_rows.proofs.FreshRows.{numbers_more, number_some, number_none, fresh_some, fresh_none, length-fresh}
-use Rattle.mars_rows.proofs.Grown.{fresh_within}
+use Rattle.std.proofs.Common.{ℕ, ◌<◌, List, length, subst, sym, ap, ◌∙◌}
+use Rattle.mars_base.proofs.ListFacts.{All-from_gets}
+use Rattle.mars_rows.specs.IndexInside.{AreHeads, number_for}
+use Rattle.mars_rows.specs.StockInside.{stock_rows}
+use Rattle.mars_rows.proofs.LookedUp.{looked_all, missing_all}
+use Rattle.mars_rows.proofs.Placed.{stock_below}
+use Rattle.mars_rows.proofs.Stocked.{closed_stock, apart_stock}
 use Rattle.mars_rows.proofs.growth.number_nodes.Goals as goal
-use Rattle.mars_rows.proofs.growth.number_nodes.Goals.{in-Some+in_ok-push-in-Some, in-None+in_ok-push-in-None+in_ok-push-in-None-2}
 
-pub overflow_add-len : goal.overflow_add-len
-overflow_add-len c =
-    let rows : List Row = rows_of c.args.rows.now in
-    let tree = c.args.tree.now in
-    let size : c.len-in-None.result ≡ length c.loop-node.fresh.items = search rules in
-    let node = c.loop-node.node in
-    omega (arith, c.len.ensures.len, size, ap length c.loop-node.invariant.fresh, length-fresh rows (length c.args.rows.now) tree node, fresh_within rows tree node, c.requires.room)
+pub places_of-requires-clause-looked : goal.places_of-requires-clause-looked
+places_of-requires-clause-looked c n n_in =
+    let q = c.requires in
+    let g = c.args.stock.now.nodes in
+    let ns = c.args.stock.now.numbers.items in
+    let looked = c.in_ok-looked.looked in
+    let parts = c.in_ok-parts.parts in
+    let heads : AreHeads parts c.deref.result.now = subst (AreHeads parts) (sym c.deref.ensures.value) c.in_ok-heads.ensures in
+    ap (λ (xs : List ℕ). number_for xs n) c.deref-2.ensures.value
+    ∙ looked_all (stock_rows g ns) (closed_stock g ns q.stock) (apart_stock g ns q.stock) c.args.tree.now q.tree parts c.in_ok-parts.ensures c.args.next (stock_below g ns q.stock c.args.next q.below) c.deref.result.now heads
+    looked.numbers.items looked.missed.items c.in_ok-looked.ensures n n_in
 
-pub loop-node-preserved : goal.loop-node-preserved
-loop-node-preserved c =
-    let g = c.args.rows.now in
-    let rows : List Row = rows_of g in
-    let next : ℕ = length g in
-    let tree = c.args.tree.now in
-    let node = c.loop-node.node in
-    let i = c.loop-node.invariant in
-    elim c.match-branch-2.branch [
-      | in-Some+in_ok-push-in-Some w ↦
-          let found : find_row rows tree node ≡ Some w.in-Some.row = sym c.in_ok-row.ensures ∙ w.in-Some.is in
-          record {
-            numbers = ap (λ v. v.items) w.numbers-is ∙ w.in_ok-push-in-Some.ensures.items ∙ ap (λ xs. xs ++ w.in-Some.row ∷ []) i.numbers
-                ∙ ap (λ k. map (row_number rows next tree) (range_with_len 0 node) ++ k ∷ []) (sym (number_some rows next tree node w.in-Some.row found)) ∙ sym (numbers_more rows next tree node);
-            fresh = ap (λ v. v.items) w.fresh-is ∙ i.fresh ∙ sym (fresh_some rows next tree node w.in-Some.row found);
-          }
-      | in-None+in_ok-push-in-None+in_ok-push-in-None-2 w ↦
-          let found : find_row rows tree node ≡ None = sym c.in_ok-row.ensures ∙ w.in-None.is in
-          let size : w.len-in-None.result ≡ length c.loop-node.fresh.items = search rules in
-          let number : w.len.result + w.len-in-None.result ≡ row_number rows next tree node =
-          omega (arith, w.len.ensures.len, size, ap length i.fresh, length-fresh rows next tree node, number_none rows next tree node found) in
-          record {
-            numbers = ap (λ v. v.items) w.numbers-is ∙ w.in_ok-push-in-None.ensures.items ∙ ap (λ xs. xs ++ (w.len.result + w.len-in-None.result) ∷ []) i.numbers
-                ∙ ap (λ k. map (row_number rows next tree) (range_with_len 0 node) ++ k ∷ []) number ∙ sym (numbers_more rows next tree node);
-            fresh = ap (λ v. v.items) w.fresh-is ∙ w.in_ok-push-in-None-2.ensures.items ∙ ap (λ xs. xs ++ node ∷ []) i.fresh ∙ sym (fresh_none rows next tree node found);
-          }
-    ]
+pub returns-clause-missing : goal.returns-clause-missing
+returns-clause-missing c m m_in none =
+    let q = c.requires in
+    let g = c.args.stock.now.nodes in
+    let ns = c.args.stock.now.numbers.items in
+    let looked = c.in_ok-looked.looked in
+    let parts = c.in_ok-parts.parts in
+    let heads : AreHeads parts c.deref.result.now = subst (AreHeads parts) (sym c.deref.ensures.value) c.in_ok-heads.ensures in
+    missing_all (stock_rows g ns) (closed_stock g ns q.stock) (apart_stock g ns q.stock) c.args.tree.now q.tree parts c.in_ok-parts.ensures c.args.next (stock_below g ns q.stock c.args.next q.below) c.deref.result.now heads
+    looked.numbers.items looked.missed.items c.in_ok-looked.ensures m m_in none
+
+pub returns-clause-missed_in : goal.returns-clause-missed_in
+returns-clause-missed_in c =
+    All-from_gets (λ m. m < length c.args.tree.now) c.in_ok-looked.looked.missed.items (λ k m e. c.in_ok-looked.ensures.missed_in k m e)

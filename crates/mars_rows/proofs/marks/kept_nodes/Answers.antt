@@ -1,4 +1,4 @@
-use Rattle.std.proofs.Common.{◌≡◌, ℕ, Bool, false, filter, nat_eq, length, slice_index_or, sym, ap, ◌∙◌, arith}
+use Rattle.std.proofs.Common.{◌≡◌, false, filter, nat_eq, length, slice_index_or, ap, ◌∙◌, arith}
 use Rattle.std.specs.List.{list_any, range_with_len}
 use Rattle.mars_rows.proofs.FreshRows.{in_range_of}
 use Rattle.mars_rows.proofs.Keeping.{kept_alike}

@@ -1,4 +1,4 @@
-use Rattle.std.proofs.Common.{◌≡◌, ℕ, Bool, false, slice_index_or, sym, ap, ◌∙◌}
+use Rattle.std.proofs.Common.{ℕ, Bool, false, slice_index_or, ap, ◌∙◌}
 use Rattle.mars_reach.specs.Order.{with_number}
 use Rattle.mars_rows.proofs.Keeping.{kept_push, kept_skip}
 use Rattle.mars_rows.proofs.marks.marked_nodes.Goals as goal

@@ -1,7 +1,6 @@
-use Rattle.std.proofs.Common.{◌≡◌, ℕ, ◌<◌, ◌+◌, List, [], ◌∷◌, ◌++◌, length, map, take, refl, sym, ap, ◌∙◌, arith}
+use Rattle.std.proofs.Common.{ℕ, List, [], ◌∷◌, ◌++◌, map, take, sym, ap, ◌∙◌, arith}
 use Rattle.std.proofs.lemmas.List.{map-append}
-use Rattle.std.proofs.lemmas.Option.{slice_get-get_or}
-use Rattle.mars_base.proofs.ListFacts.{take-next, All-get}
+use Rattle.mars_base.proofs.ListFacts.{take-next}
 use Rattle.mars_rows.specs.StockInside.{number_of_node}
 use Rattle.mars_rows.proofs.marks.numbers_of.Goals as goal
 

@@ -51,6 +51,19 @@ returns-clause-rows c =
     let numbers : c.in_ok-numbers.numbers.items ≡ map (number_of_node ns) c.in_ok-order.order = c.in_ok-numbers.ensures ∙ ap (λ xs. map (number_of_node xs) c.in_ok-order.order) c.deref-3.ensures.value in
     ap (λ h. stock_rows h c.in_ok-numbers.numbers.items) c.in_ok-nodes.ensures.nodes ∙ ap (stock_rows (renumbered g (place_in c.in_ok-order.order) c.in_ok-order.order)) numbers ∙ swept_rows g ns c.requires.stock c.args.pins.now c.requires.pinned roots c.in_ok-order.order within are kept
 
+pub index_of-requires : goal.index_of-requires
+index_of-requires c =
+    let g = c.args.stock.now.nodes in
+    let ns = c.args.stock.now.numbers.items in
+    let roots = c.in_ok-roots.roots.items in
+    let within : All (λ root. root < length ns) roots = subst (λ (xs : List ℕ). All (λ root. root < length xs) roots) c.deref.ensures.value c.in_ok-roots.ensures.within in
+    let are : map (number_of_node ns) roots ≡ map (λ pin. pin.1) c.args.pins.now = subst (λ (xs : List ℕ). map (number_of_node xs) roots ≡ map (λ pin. pin.1) c.args.pins.now) c.deref.ensures.value c.in_ok-roots.ensures.are in
+    let kept : AreKept g roots c.in_ok-order.order = subst (λ (xs : List ℕ). AreKept g xs c.in_ok-order.order) c.deref-2.ensures.value c.in_ok-order.ensures in
+    let numbers : c.in_ok-numbers.numbers.items ≡ map (number_of_node ns) c.in_ok-order.order = c.in_ok-numbers.ensures ∙ ap (λ xs. map (number_of_node xs) c.in_ok-order.order) c.deref-3.ensures.value in
+    subst (IsStock c.in_ok-nodes.nodes) (sym c.deref-4.ensures.value)
+    (subst (λ (h : List Node). IsStock h c.in_ok-numbers.numbers.items) (sym c.in_ok-nodes.ensures.nodes) (subst (λ (xs : List ℕ). IsStock (renumbered g (place_in c.in_ok-order.order) c.in_ok-order.order) xs) (sym numbers)
+    (swept_stock g ns c.requires.stock c.args.pins.now c.requires.pinned roots c.in_ok-order.order within are kept (subst IsGraph c.in_ok-nodes.ensures.nodes c.in_ok-nodes.ensures.graph))))
+
 pub returns-clause-stock : goal.returns-clause-stock
 returns-clause-stock c =
     let g = c.args.stock.now.nodes in

@@ -1,11 +1,11 @@
-use Rattle.std.proofs.Common.{◌≡◌, ℕ, ◌<◌, ◌≤◌, ◌+◌, List, length, vec_len, map, All, Contains, sym, ap, subst, ◌∙◌, ◌++◌, arith, rules, slice_get, Some}
+use Rattle.std.proofs.Common.{◌≡◌, ℕ, ◌<◌, ◌+◌, List, length, vec_len, All, Contains, sym, ap, subst, ◌∙◌, ◌++◌, arith, rules, Some}
 use Rattle.std.specs.List.{range_with_len}
 use Rattle.std.proofs.lemmas.List.{get_or_read}
 use Rattle.std.proofs.lemmas.Option.{slice_get-get_or}
 use Rattle.mars_base.proofs.ListFacts.{All-from_gets, Contains-get, get-append}
 use Rattle.mars_tree.specs.Renumbered.{renumbered, HaveKids, KidsFit}
 use Rattle.mars_rows.specs.FreshInside.{at_places}
-use Rattle.mars_rows.specs.Object.{fresh_before, fresh_rows, row_number}
+use Rattle.mars_rows.specs.Object.{fresh_before, row_number}
 use Rattle.mars_rows.specs.RowsInside.{rows_of}
 use Rattle.mars_rows.specs.StockInside.{number_of_node, stock_rows, IsStock}
 use Rattle.mars_rows.proofs.Grown.{number_in, fresh_within}

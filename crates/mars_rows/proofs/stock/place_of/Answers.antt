@@ -1,10 +1,10 @@
-use Rattle.std.proofs.Common.{◌≡◌, ℕ, ◌<◌, ◌≤◌, List, length, Err, arith, get_or, inl, inr, subst, sym}
+use Rattle.std.proofs.Common.{◌≡◌, ℕ, ◌<◌, ◌≤◌, List, length, arith, get_or, inl, inr, subst}
 use Rattle.std.proofs.lemmas.Bool.{cases_order, cases_lt}
 use Rattle.std.proofs.lemmas.Option.{get_or_from_slice_get}
 use Rattle.std.proofs.lemmas.List.Sorted.{searched}
 use Rattle.std.specs.Result.{MatchResult}
 use Rattle.mars_base.proofs.ListFacts.{get-Contains}
-use Rattle.mars_rows.specs.StockInside.{NumbersRise, number_of_node}
+use Rattle.mars_rows.specs.StockInside.{NumbersRise}
 use Rattle.mars_rows.proofs.stock.place_of.Goals as goal
 
 -- numbers that rise don't fall

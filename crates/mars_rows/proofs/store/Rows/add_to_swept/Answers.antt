@@ -1,17 +1,29 @@
-use Rattle.std.proofs.Common.{◌≡◌, ℕ, ◌<◌, ◌≤◌, ◌+◌, not, nat_lt, true, false, List, [], ◌∷◌, ◌++◌, length, vec_len, filter, All, Contains, subst, sym, ap, ◌∙◌, arith, rules, refl}
-use Rattle.mars_tree.specs.Graph.{Node}
+use Rattle.std.proofs.Common.{◌≡◌, ℕ, ◌<◌, ◌≤◌, ◌+◌, ◌^◌, not, nat_lt, false, List, ◌++◌, length, filter, All, Contains, subst, sym, ap, ◌∙◌, arith, rules, refl}
 use Rattle.mars_rows.specs.Rows.{Row}
-use Rattle.mars_rows.specs.Object.{TableObject, fresh_before, fresh_rows, row_number, sweep, is_met}
-use Rattle.mars_rows.specs.RowsObject.{RowsObject, fits, with_tree, Adding, root, too_many, add}
-use Rattle.mars_rows.specs.StockInside.{stock_rows, IsStock}
+use Rattle.mars_rows.specs.Object.{fresh_before, fresh_rows, row_number, sweep, is_met}
+use Rattle.mars_rows.specs.RowsObject.{RowsObject, fits, Adding, root, too_many, add}
+use Rattle.mars_rows.specs.StockInside.{stock_rows}
 use Rattle.mars_rows.specs.StoreInside.{table_in}
 use Rattle.mars_rows.specs.TreeGraph.{IsTreeGraph}
-use Rattle.mars_rows.proofs.Holding.{not_more, add_here, add_swept, add_full, among_below, pins_kept, counted_fresh, counted_all}
+use Rattle.mars_rows.proofs.Holding.{not_more, add_swept, add_full, among_below, pins_kept, counted_fresh}
+use Rattle.mars_rows.proofs.Grown.{fresh_within}
+use Rattle.mars_rows.proofs.Holding.{still_small}
 use Rattle.mars_rows.proofs.Stocked.{length-stock, contains_stock}
 use Rattle.mars_rows.proofs.store.Rows.add_to_swept.Goals as goal
 
-pub append-requires-clause-below : goal.append-requires-clause-below
-append-requires-clause-below c =
+pub number_nodes-requires-clause-below : goal.number_nodes-requires-clause-below
+number_nodes-requires-clause-below c =
+    let p = c.self.inside in
+    let i = c.self.invariant in
+    let g = p.stock.nodes in
+    let ns = p.stock.numbers.items in
+    let h = c.in_ok-left.left.nodes in
+    let ms = c.in_ok-left.left.numbers.items in
+    let l = c.in_ok-left.ensures in
+    among_below ns ms p.next i.below l.among
+
+pub grow-requires-clause-below : goal.grow-requires-clause-below
+grow-requires-clause-below c =
     let p = c.self.inside in
     let i = c.self.invariant in
     let g = p.stock.nodes in
@@ -73,16 +85,18 @@ invariant_of-self c =
     let fit : c.is_within.result ≡ fits (sweep (table_in p)) tree = c.is_within.ensures ∙ ap (λ n. not (nat_lt p.cap n)) all in
     let full : fits (table_in p) tree ≡ false = ap (λ (o : RowsObject). fits o.table tree) c.self.view_is ∙ c.requires.full in
     let e = c.in_ok-root.ensures in
-    let new = c.append.new.stock in
+    let new = c.grow.new.stock in
     let again : c.len-3.result ≡ length fresh = search rules in
     let more : c.len-3.result ≡ fresh_before (stock_rows h ms) tree (length tree) = again ∙ counted_fresh h ms l.stock tree is_tree fresh c.in_ok-numbered.ensures.fresh in
     let within : length rest + fresh_before rest tree (length tree) ≤ p.cap = not_more p.cap (length rest + fresh_before rest tree (length tree)) (sym fit ∙ c.if-not-is_within.false) in
     record {
       stock = e.stock;
+      indexed = e.index;
       below = subst (λ (k : ℕ). All (λ number. number < p.next + k) new.numbers.items) (sym more) e.below;
       pinned = pins_kept ms new.numbers.items p.pins.items e.kept (subst (All (λ (pin : ℕ × ℕ). Contains ms pin.1)) c.deref.ensures.value l.pinned);
       within = omega (arith, e.count, within, size, again, more, fresh_is);
       fits = i.fits;
+      small = still_small p.next c.len-3.result tree (subst (λ (o : RowsObject). o.table.next < 2 ^ 127) (sym c.self.view_is) c.requires.next) q.few (omega (arith, more, fresh_within (stock_rows h ms) tree (length tree)));
     }
 
 pub returns-clause-added : goal.returns-clause-added
@@ -108,7 +122,7 @@ returns-clause-added c =
     let fit : c.is_within.result ≡ fits (sweep (table_in p)) tree = c.is_within.ensures ∙ ap (λ n. not (nat_lt p.cap n)) all in
     let full : fits (table_in p) tree ≡ false = ap (λ (o : RowsObject). fits o.table tree) c.self.view_is ∙ c.requires.full in
     let e = c.in_ok-root.ensures in
-    let new = c.append.new.stock in
+    let new = c.grow.new.stock in
     let again : c.len-3.result ≡ length fresh = search rules in
     let more : c.len-3.result ≡ fresh_before (stock_rows h ms) tree (length tree) = again ∙ counted_fresh h ms l.stock tree is_tree fresh c.in_ok-numbered.ensures.fresh in
     let within : length rest + fresh_before rest tree (length tree) ≤ p.cap = not_more p.cap (length rest + fresh_before rest tree (length tree)) (sym fit ∙ c.if-not-is_within.false) in
@@ -126,5 +140,5 @@ returns-clause-root c =
     let g = p.stock.nodes in
     let ns = p.stock.numbers.items in
     let e = c.in_ok-root.ensures in
-    let new = c.append.new.stock in
+    let new = c.grow.new.stock in
     contains_stock new.nodes new.numbers.items e.stock c.in_ok-root.root e.root_in

@@ -1,13 +1,11 @@
-use Rattle.std.proofs.Common.{◌≡◌, ℕ, ◌<◌, ◌≤◌, ◌+◌, ◌-◌, not, nat_lt, true, false, List, [], ◌∷◌, ◌++◌, length, vec_len, filter, All, Contains, subst, sym, ap, ◌∙◌, arith, rules}
-use Rattle.mars_tree.specs.Graph.{Node}
+use Rattle.std.proofs.Common.{◌≡◌, ℕ, ◌-◌, List, length, filter, All, Contains, subst, sym, ap, ◌∙◌, arith}
 use Rattle.mars_rows.specs.Rows.{Row}
-use Rattle.mars_rows.specs.Object.{TableObject, fresh_before, fresh_rows, row_number, sweep, is_met}
-use Rattle.mars_rows.specs.RowsObject.{RowsObject, fits, with_tree, Adding, root, too_many, add}
-use Rattle.mars_rows.specs.StockInside.{stock_rows, IsStock}
+use Rattle.mars_rows.specs.Object.{sweep, is_met}
+use Rattle.mars_rows.specs.RowsObject.{RowsObject}
+use Rattle.mars_rows.specs.StockInside.{stock_rows}
 use Rattle.mars_rows.specs.StoreInside.{table_in}
-use Rattle.mars_rows.specs.TreeGraph.{IsTreeGraph}
-use Rattle.mars_rows.proofs.Holding.{not_more, add_here, add_swept, add_full, among_below, pins_kept, counted_fresh, counted_all}
-use Rattle.mars_rows.proofs.Stocked.{length-stock, contains_stock}
+use Rattle.mars_rows.proofs.Holding.{among_below}
+use Rattle.mars_rows.proofs.Stocked.{length-stock}
 use Rattle.mars_rows.specs.Object.{swept as swept_count}
 use Rattle.mars_rows.proofs.store.Rows.sweep.Goals as goal
 
@@ -22,10 +20,12 @@ invariant_of-self c =
     let l = c.in_ok-left.ensures in
     record {
       stock = l.stock;
+      indexed = l.index;
       below = among_below ns ms p.next i.below l.among;
       pinned = subst (All (λ (pin : ℕ × ℕ). Contains ms pin.1)) c.deref.ensures.value l.pinned;
       within = omega (arith, l.fewer, i.within);
       fits = i.fits;
+      small = i.small;
     }
 
 pub returns-clause-count : goal.returns-clause-count

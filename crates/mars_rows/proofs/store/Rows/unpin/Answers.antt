@@ -1,4 +1,4 @@
-use Rattle.std.proofs.Common.{◌≡◌, ℕ, suc, List, ◌++◌, take, drop, slice_get, All, Contains, subst, sym, ◌∙◌, ◌+◌}
+use Rattle.std.proofs.Common.{ℕ, suc, List, take, drop, All, Contains, subst, sym, ◌∙◌, ◌+◌}
 use Rattle.std.specs.List.{remove}
 use Rattle.std.proofs.lemmas.List.Elements.{All-append}
 use Rattle.mars_base.proofs.ListFacts.{All-get, All-from_gets, get-take, get-drop}
@@ -16,8 +16,10 @@ invariant_of-self c =
     let i = c.self.invariant in
     record {
       stock = i.stock;
+      indexed = i.indexed;
       below = i.below;
       pinned = subst (All (λ (pin : ℕ × ℕ). Contains p.stock.numbers.items pin.1)) (sym c.remove.ensures.items) (All-remove (λ (pin : ℕ × ℕ). Contains p.stock.numbers.items pin.1) p.pins.items c.pin_place-place.result i.pinned);
       within = i.within;
       fits = i.fits;
+      small = i.small;
     }
