@@ -13,7 +13,7 @@ use Rattle.std.proofs.lemmas.List.Elements.{All-append, All-cons, All-nil, All-w
 use Rattle.mars_tree.specs.declared.label.NameId.{NameId}
 use Rattle.mars_tree.specs.Graph.{Node, free_leaf, labelled}
 use Rattle.mars_graphs.specs.Systems.{same_variable}
-use Rattle.mars_graphs.specs.Nodes.{Nodes, no_nodes, leaf_among, leaf_of_variable, target_among, target_of, nodes_with, nodes_with_variable, nodes_with_target, kids_set, has_target, AreNodes}
+use Rattle.mars_graphs.specs.Nodes.{Nodes, no_nodes, leaf_among, leaf_of_variable, target_among, target_at, nodes_with, nodes_with_variable, nodes_with_target, kids_set, has_target, AreNodes}
 
 -- variables are equal where the test says so
 same-test : (n m : ℕ) → ((n == m) ≡ true) ↔ (n ≡ m)
@@ -201,9 +201,9 @@ kids_set-last g l ks kids n e = at g n e
 
 -- what the variable's leaf gives way to
 pub record Leaf (old new : Nodes) (x : NameId) (leaf : ℕ) : Type 0 where
-  pub defined : target_of new leaf ≢ leaf → has_target old x ≡ true
-  pub undefined : target_of new leaf ≡ leaf → has_target old x ≡ false
-  pub same : target_of new leaf ≢ leaf → new ≡ old
+  pub defined : target_at new leaf ≢ leaf → has_target old x ≡ true
+  pub undefined : target_at new leaf ≡ leaf → has_target old x ≡ false
+  pub same : target_at new leaf ≢ leaf → new ≡ old
 
 pub leaf-of-variable : (old new : Nodes) (x : NameId) (leaf : ℕ) → AreNodes old → new ≡ nodes_with_variable old x → leaf_of_variable new x ≡ Some leaf → Leaf old new x leaf
 leaf-of-variable old new x leaf nodes is found = at (leaf_of_variable old x) refl
@@ -212,11 +212,11 @@ leaf-of-variable old new x leaf nodes is found = at (leaf_of_variable old x) ref
     known l e =
         let same : new ≡ old = is ∙ nodes_with_variable-known old x l e in
         let leaves : leaf ≡ l = let there : leaf_of_variable old x ≡ Some leaf = subst (λ b. leaf_of_variable b x ≡ Some leaf) same found in cc in
-        let test : has_target old x ≡ not (target_of old l == l) = ap (λ o. option_map_or (λ l. not (target_of old l == l)) o false) e in
-        let target : target_of new leaf ≡ target_of old l = ap (λ b. target_of b leaf) same ∙ ap (target_of old) leaves in
+        let test : has_target old x ≡ not (target_at old l == l) = ap (λ o. option_map_or (λ l. not (target_at old l == l)) o false) e in
+        let target : target_at new leaf ≡ target_at old l = ap (λ b. target_at b leaf) same ∙ ap (target_at old) leaves in
         record {
-          defined = λ n. test ∙ ap not (ne-test (target_of old l) l (λ q. n (target ∙ q ∙ sym leaves)));
-          undefined = λ q. test ∙ ap not (eq-test (target_of old l) l (sym target ∙ q ∙ leaves));
+          defined = λ n. test ∙ ap not (ne-test (target_at old l) l (λ q. n (target ∙ q ∙ sym leaves)));
+          undefined = λ q. test ∙ ap not (eq-test (target_at old l) l (sym target ∙ q ∙ leaves));
           same = λ n. same;
         }
 
@@ -225,8 +225,8 @@ leaf-of-variable old new x leaf nodes is found = at (leaf_of_variable old x) ref
         let same : new ≡ leaf_added old x = is ∙ nodes_with_variable-new old x e in
         let there : leaf_of_variable (leaf_added old x) x ≡ Some leaf = subst (λ b. leaf_of_variable b x ≡ Some leaf) same found in
         let new_leaf : leaf ≡ length old.nodes = let put = leaf_among-new x old.leaves (length old.nodes) e in cc in
-        let itself : target_of new leaf ≡ leaf = ap (λ b. target_of b leaf) same ∙ subst (λ k. target_among (old.targets ++ k ∷ []) leaf ≡ leaf) new_leaf (target-new old.targets leaf (new_leaf ∙ sym nodes.size)) in
-        let test : has_target old x ≡ false = ap (λ o. option_map_or (λ l. not (target_of old l == l)) o false) e in
+        let itself : target_at new leaf ≡ leaf = ap (λ b. target_at b leaf) same ∙ subst (λ k. target_among (old.targets ++ k ∷ []) leaf ≡ leaf) new_leaf (target-new old.targets leaf (new_leaf ∙ sym nodes.size)) in
+        let test : has_target old x ≡ false = ap (λ o. option_map_or (λ l. not (target_at old l == l)) o false) e in
         record { defined = λ n. absurd (n itself); undefined = λ q. test; same = λ n. absurd (n itself) }
 
     at : (o : Option ℕ) → leaf_of_variable old x ≡ o → Leaf old new x leaf

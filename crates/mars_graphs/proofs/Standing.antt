@@ -11,7 +11,7 @@ use Rattle.mars_tree.specs.declared.label.NameId.{NameId}
 use Rattle.mars_tree.specs.Graph.{Node, free_leaf}
 use Rattle.mars_tree.specs.Graph as graph
 use Rattle.mars_graphs.specs.Systems.{same_variable, Side, variable, labelled, Sides, no_sides, next_side, Equation, equal_to}
-use Rattle.mars_graphs.specs.Nodes.{Nodes, no_nodes, leaf_of_variable, target_of, target_among, nodes_with, nodes_with_variable, nodes_with_target, has_target, StandsFor, StandForRow, HasLabel, Holds, NodesGrow, AreNodes}
+use Rattle.mars_graphs.specs.Nodes.{Nodes, no_nodes, leaf_of_variable, target_at, target_among, nodes_with, nodes_with_variable, nodes_with_target, has_target, StandsFor, StandForRow, HasLabel, Holds, NodesGrow, AreNodes}
 use Rattle.mars_graphs.proofs.Building.{leaf_added, nodes_with_variable-new, nodes_with_variable-known, leaf_among-append, leaf_among-added, slice_get-append, slice_get-new, target-added, target-new, nodes-leaf, eq-test, same-decides}
 use Rattle.mars_graphs.proofs.Trees.{equal-cases}
 
@@ -83,9 +83,9 @@ leaf-within b x leaf nodes e = omega (arith, slice_get_within b.nodes leaf free_
 pub holds-node : (b : Nodes) (node : Node) (equations : List Equation) → AreNodes b → Holds b equations → Holds (nodes_with b node) equations
 holds-node b node equations nodes holds = record {
   each = λ x leaf e.
-      let stays : target_of (nodes_with b node) leaf ≡ target_of b leaf = target-added b.targets (length b.nodes) leaf (leaf-within b x leaf nodes e) in
+      let stays : target_at (nodes_with b node) leaf ≡ target_at b leaf = target-added b.targets (length b.nodes) leaf (leaf-within b x leaf nodes e) in
       subst (λ n. StandsFor (nodes_with b node) n (equal_to equations x)) (sym stays)
-      (stands-grown b (nodes_with b node) (target_of b leaf) (equal_to equations x) (grows-node b node) (holds.each x leaf e));
+      (stands-grown b (nodes_with b node) (target_at b leaf) (equal_to equations x) (grows-node b node) (holds.each x leaf e));
   known = holds.known;
   applied = holds.applied;
 }
@@ -110,13 +110,13 @@ holds-leaf : (b : Nodes) (x : NameId) (equations : List Equation) → AreNodes b
 holds-leaf b x equations nodes new holds = record {
   each = λ y leaf e. elim (leaf_among-added y x b.leaves (length b.nodes) leaf e) [
     | inl old ↦
-        let stays : target_of (leaf_added b x) leaf ≡ target_of b leaf = target-added b.targets (length b.nodes) leaf (leaf-within b y leaf nodes old) in
+        let stays : target_at (leaf_added b x) leaf ≡ target_at b leaf = target-added b.targets (length b.nodes) leaf (leaf-within b y leaf nodes old) in
         subst (λ n. StandsFor (leaf_added b x) n (equal_to equations y)) (sym stays)
-        (stands-grown b (leaf_added b x) (target_of b leaf) (equal_to equations y) (grows-leaf b x) (holds.each y leaf old))
+        (stands-grown b (leaf_added b x) (target_at b leaf) (equal_to equations y) (grows-leaf b x) (holds.each y leaf old))
     | inr there ↦
-        let itself : target_of (leaf_added b x) leaf ≡ leaf = subst (λ k. target_among (b.targets ++ k ∷ []) leaf ≡ leaf) there.1 (target-new b.targets leaf (there.1 ∙ sym nodes.size)) in
+        let itself : target_at (leaf_added b x) leaf ≡ leaf = subst (λ k. target_among (b.targets ++ k ∷ []) leaf ≡ leaf) there.1 (target-new b.targets leaf (there.1 ∙ sym nodes.size)) in
         let undefined : equal_to equations y ≡ variable y = subst (λ z. equal_to equations z ≡ variable z) (sym there.0) (unknown-undefined b x equations new holds.known) in
-        subst (λ t. StandsFor (leaf_added b x) (target_of (leaf_added b x) leaf) t) (sym undefined) (e ∙ ap Some (sym itself))
+        subst (λ t. StandsFor (leaf_added b x) (target_at (leaf_added b x) leaf) t) (sym undefined) (e ∙ ap Some (sym itself))
   ];
   known = known-grown b (leaf_added b x) equations (grows-leaf b x) holds.known;
   applied = holds.applied;
@@ -153,15 +153,15 @@ not-test n m h = grind (arith, nat_tests)
 pub target-label : (b : Nodes) (x : NameId) (equations : List Equation) → AreNodes b → Holds b equations → has_target b x ≡ true → HasLabel (equal_to equations x)
 target-label b x equations nodes holds is = at (leaf_of_variable b x) refl is
   where
-    given : (leaf : ℕ) → leaf_of_variable b x ≡ Some leaf → (target_of b leaf ≡ leaf → ⊥) → (t : Side) → equal_to equations x ≡ t → StandsFor b (target_of b leaf) t → (t ≡ variable x) ⊎ HasLabel t → HasLabel t
+    given : (leaf : ℕ) → leaf_of_variable b x ≡ Some leaf → (target_at b leaf ≡ leaf → ⊥) → (t : Side) → equal_to equations x ≡ t → StandsFor b (target_at b leaf) t → (t ≡ variable x) ⊎ HasLabel t → HasLabel t
     given leaf e other t same s (inr applied) = applied
-    given leaf e other t same s (inl itself) = absurd (let there : leaf_of_variable b x ≡ Some (target_of b leaf) = subst (λ t. StandsFor b (target_of b leaf) t) itself s in other cc)
+    given leaf e other t same s (inl itself) = absurd (let there : leaf_of_variable b x ≡ Some (target_at b leaf) = subst (λ t. StandsFor b (target_at b leaf) t) itself s in other cc)
 
     at : (o : Option ℕ) → leaf_of_variable b x ≡ o → has_target b x ≡ true → HasLabel (equal_to equations x)
-    at None e is = absurd (let no : has_target b x ≡ false = ap (λ o. option_map_or (λ l. not (target_of b l == l)) o false) e in cc)
+    at None e is = absurd (let no : has_target b x ≡ false = ap (λ o. option_map_or (λ l. not (target_at b l == l)) o false) e in cc)
     at (Some leaf) e is =
-        let test : has_target b x ≡ not (target_of b leaf == leaf) = ap (λ o. option_map_or (λ l. not (target_of b l == l)) o false) e in
-        given leaf e (λ same. let yes : (target_of b leaf == leaf) ≡ true = eq-test (target_of b leaf) leaf same in let no : not (target_of b leaf == leaf) ≡ true = sym test ∙ is in cc) (equal_to equations x) refl (holds.each x leaf e)
+        let test : has_target b x ≡ not (target_at b leaf == leaf) = ap (λ o. option_map_or (λ l. not (target_at b l == l)) o false) e in
+        given leaf e (λ same. let yes : (target_at b leaf == leaf) ≡ true = eq-test (target_at b leaf) leaf same in let no : not (target_at b leaf == leaf) ≡ true = sym test ∙ is in cc) (equal_to equations x) refl (holds.each x leaf e)
         (equal-cases x equations holds.applied)
 
 pub no-target-variable : (b : Nodes) (x : NameId) (equations : List Equation) → AreNodes b → Holds b equations → has_target b x ≡ false → equal_to equations x ≡ variable x
@@ -172,8 +172,8 @@ no-target-variable b x equations nodes holds is = at (leaf_of_variable b x) refl
     at (Some leaf) e = elim (equal-cases x equations holds.applied) [
       | inl itself ↦ itself
       | inr applied ↦ absurd (
-          let test : has_target b x ≡ not (target_of b leaf == leaf) = ap (λ o. option_map_or (λ l. not (target_of b l == l)) o false) e in
-          let itself : target_of b leaf ≡ leaf = not-test (target_of b leaf) leaf (sym test ∙ is) in
+          let test : has_target b x ≡ not (target_at b leaf == leaf) = ap (λ o. option_map_or (λ l. not (target_at b l == l)) o false) e in
+          let itself : target_at b leaf ≡ leaf = not-test (target_at b leaf) leaf (sym test ∙ is) in
           leaf-no-label b x leaf (equal_to equations x) nodes e (subst (λ n. StandsFor b n (equal_to equations x)) itself (holds.each x leaf e)) applied)
     ]
 
@@ -199,10 +199,10 @@ defined-other x y t (d ∷ equations) other = at (same_variable y d.variable) (d
     at true ih = refl
     at false ih = ih
 
-target-set : (b : Nodes) (leaf root : ℕ) → leaf < length b.targets → target_of (nodes_with_target b leaf root) leaf ≡ root
+target-set : (b : Nodes) (leaf root : ℕ) → leaf < length b.targets → target_at (nodes_with_target b leaf root) leaf ≡ root
 target-set b leaf root less = get_or-set_same b.targets leaf root leaf less
 
-target-kept : (b : Nodes) (leaf root n : ℕ) → (n ≡ leaf → ⊥) → target_of (nodes_with_target b leaf root) n ≡ target_of b n
+target-kept : (b : Nodes) (leaf root n : ℕ) → (n ≡ leaf → ⊥) → target_at (nodes_with_target b leaf root) n ≡ target_at b n
 target-kept b leaf root n other = get_or-set_other b.targets leaf n root n other
 
 pub holds-target : (b : Nodes) (x : NameId) (leaf root : ℕ) (t : Side) (equations : List Equation) → AreNodes b → Holds b equations → leaf_of_variable b x ≡ Some leaf → equal_to equations x ≡ variable x → StandsFor b root t → HasLabel t →
@@ -219,18 +219,18 @@ holds-target b x leaf root t equations nodes holds found undefined s applied = r
     grown : (n : ℕ) (w : Side) → StandsFor b n w → StandsFor (nodes_with_target b leaf root) n w
     grown n w s = stands-grown b (nodes_with_target b leaf root) n w (grows-target b leaf root) s
 
-    here : (y : NameId) (l : ℕ) → leaf_of_variable b y ≡ Some l → y ≡ x → StandsFor (nodes_with_target b leaf root) (target_of (nodes_with_target b leaf root) l) (equal_to (equations ++ record { variable = x; side = t } ∷ []) y)
+    here : (y : NameId) (l : ℕ) → leaf_of_variable b y ≡ Some l → y ≡ x → StandsFor (nodes_with_target b leaf root) (target_at (nodes_with_target b leaf root) l) (equal_to (equations ++ record { variable = x; side = t } ∷ []) y)
     here y l e same =
         let leaves : l ≡ leaf = let also : leaf_of_variable b x ≡ Some l = subst (λ z. leaf_of_variable b z ≡ Some l) same e in cc in
-        let target : target_of (nodes_with_target b leaf root) l ≡ root = ap (target_of (nodes_with_target b leaf root)) leaves ∙ target-set b leaf root (leaf-within b x leaf nodes found) in
+        let target : target_at (nodes_with_target b leaf root) l ≡ root = ap (target_at (nodes_with_target b leaf root)) leaves ∙ target-set b leaf root (leaf-within b x leaf nodes found) in
         let term : equal_to (equations ++ record { variable = x; side = t } ∷ []) y ≡ t = ap (equal_to (equations ++ record { variable = x; side = t } ∷ [])) same ∙ defined-last x t equations holds.applied undefined in
         subst (λ n. StandsFor (nodes_with_target b leaf root) n (equal_to (equations ++ record { variable = x; side = t } ∷ []) y)) (sym target)
         (subst (λ w. StandsFor (nodes_with_target b leaf root) root w) (sym term) (grown root t s))
 
-    at : (y : NameId) (l : ℕ) → leaf_of_variable b y ≡ Some l → (v : Bool) → same_variable y x ≡ v → StandsFor (nodes_with_target b leaf root) (target_of (nodes_with_target b leaf root) l) (equal_to (equations ++ record { variable = x; side = t } ∷ []) y)
+    at : (y : NameId) (l : ℕ) → leaf_of_variable b y ≡ Some l → (v : Bool) → same_variable y x ≡ v → StandsFor (nodes_with_target b leaf root) (target_at (nodes_with_target b leaf root) l) (equal_to (equations ++ record { variable = x; side = t } ∷ []) y)
     at y l e true is = here y l e ((same-decides y x).0 is)
     at y l e false is =
         let other : y ≡ x → ⊥ = λ same. let yes : same_variable y x ≡ true = (same-decides y x).1 same in cc in
-        let target : target_of (nodes_with_target b leaf root) l ≡ target_of b l = target-kept b leaf root l (λ same. other (nodes.apart y x leaf (subst (λ k. leaf_of_variable b y ≡ Some k) same e) found)) in
+        let target : target_at (nodes_with_target b leaf root) l ≡ target_at b l = target-kept b leaf root l (λ same. other (nodes.apart y x leaf (subst (λ k. leaf_of_variable b y ≡ Some k) same e) found)) in
         subst (λ n. StandsFor (nodes_with_target b leaf root) n (equal_to (equations ++ record { variable = x; side = t } ∷ []) y)) (sym target)
-        (subst (λ w. StandsFor (nodes_with_target b leaf root) (target_of b l) w) (sym (defined-other x y t equations other)) (grown (target_of b l) (equal_to equations y) (holds.each y l e)))
+        (subst (λ w. StandsFor (nodes_with_target b leaf root) (target_at b l) w) (sym (defined-other x y t equations other)) (grown (target_at b l) (equal_to equations y) (holds.each y l e)))

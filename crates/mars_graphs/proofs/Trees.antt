@@ -7,15 +7,15 @@ use Rattle.mars_tree.specs.declared.label.NameId.{NameId}
 use Rattle.mars_tree.specs.Graph.{Node, kids_of, shown_at, stands, end_of, free_leaf}
 use Rattle.mars_tree.specs.Graph as graph
 use Rattle.mars_tree.specs.Walk.{walk}
-use Rattle.mars_graphs.specs.Systems.{same_variable, Side, variable, labelled, Sides, no_sides, next_side, side_list, Equation, System, equal_to, opened, sides_under, label, free, tip_of, side_at, ShowsTip, IsSolution}
-use Rattle.mars_graphs.specs.Nodes.{Nodes, leaf_of_variable, target_of, target_among, StandsFor, StandForRow, HasLabel, Holds, tied, tied_graph, AreNodes}
+use Rattle.mars_graphs.specs.Systems.{same_variable, Side, variable, labelled, Sides, no_sides, next_side, side_list, Equation, EquationSystem, equal_to, given_way, sides_under, label, free, tip_of, side_at, ShowsTip, IsSolution}
+use Rattle.mars_graphs.specs.Nodes.{Nodes, leaf_of_variable, target_at, target_among, StandsFor, StandForRow, HasLabel, Holds, tied, tied_graph, AreNodes}
 
 -- a node of a term that gives way to none
 pub record Final (b : Nodes) (equations : List Equation) (n : ℕ) (w : Side) : Type 0 where
   pub stands : StandsFor b n w
-  pub fixed : opened equations w ≡ w
+  pub fixed : given_way equations w ≡ w
 
-label-fixed : (equations : List Equation) (w : Side) → HasLabel w → opened equations w ≡ w
+label-fixed : (equations : List Equation) (w : Side) → HasLabel w → given_way equations w ≡ w
 label-fixed equations (variable x) a = absurd a
 label-fixed equations (labelled l sides) a = refl
 
@@ -28,14 +28,14 @@ equal-cases x (d ∷ equations) a = at (same_variable x d.variable) (equal-cases
     at true rest = inr (All-head (λ e. HasLabel e.side) d equations a)
     at false rest = rest
 
-equal-fixed : (x : NameId) (equations : List Equation) → All (λ e. HasLabel e.side) equations → opened equations (equal_to equations x) ≡ equal_to equations x
-equal-fixed x equations a = elim (equal-cases x equations a) [ inl e ↦ ap (opened equations) e | inr has ↦ label-fixed equations (equal_to equations x) has ]
+equal-fixed : (x : NameId) (equations : List Equation) → All (λ e. HasLabel e.side) equations → given_way equations (equal_to equations x) ≡ equal_to equations x
+equal-fixed x equations a = elim (equal-cases x equations a) [ inl e ↦ ap (given_way equations) e | inr has ↦ label-fixed equations (equal_to equations x) has ]
 
-pub target-final : (b : Nodes) (equations : List Equation) (n : ℕ) (t : Side) → AreNodes b → Holds b equations → StandsFor b n t → Final b equations (target_of b n) (opened equations t)
+pub target-final : (b : Nodes) (equations : List Equation) (n : ℕ) (t : Side) → AreNodes b → Holds b equations → StandsFor b n t → Final b equations (target_at b n) (given_way equations t)
 target-final b equations n (variable x) nodes holds s = record { stands = holds.each x n s; fixed = equal-fixed x equations holds.applied }
 target-final b equations n (labelled l sides) nodes holds s =
     let (kids, node, row) = s in
-    let keeps : target_of b n ≡ n = nodes.kept n (graph.labelled l kids) node (λ e. cc) in
+    let keeps : target_at b n ≡ n = nodes.kept n (graph.labelled l kids) node (λ e. cc) in
     record { stands = subst (λ k. StandsFor b k (labelled l sides)) (sym keeps) s; fixed = refl }
 
 -- two walks end nowhere, or at a node and its term
@@ -46,7 +46,7 @@ EndAlike b equations (Some n) None = ⊥
 EndAlike b equations None (Some w) = ⊥
 
 row-alike : (b : Nodes) (equations : List Equation) (kids : List ℕ) (sides : Sides) (k : ℕ) → AreNodes b → Holds b equations → StandForRow b kids sides →
-    EndAlike b equations (slice_get (map (target_among b.targets) kids) k) (slice_get (map (opened equations) (side_list sides)) k)
+    EndAlike b equations (slice_get (map (target_among b.targets) kids) k) (slice_get (map (given_way equations) (side_list sides)) k)
 row-alike b equations kids no_sides k nodes holds e = rw e tt
 row-alike b equations kids (next_side t sides) zero nodes holds (kid, rest, e, s, row) = rw e (target-final b equations kid t nodes holds s)
 row-alike b equations kids (next_side t sides) (suc k) nodes holds (kid, rest, e, s, row) = rw e (row-alike b equations rest sides k nodes holds row)
@@ -64,7 +64,7 @@ kids-alike b equations n (variable x) k nodes holds s =
     subst (λ (at : Node). EndAlike b equations (slice_get at.kids k) None) (sym node) tt
 kids-alike b equations n (labelled l sides) k nodes holds (kids, is, row) =
     let node = node-at b b.nodes n (graph.labelled l kids) is in
-    subst (λ (at : Node). EndAlike b equations (slice_get at.kids k) (slice_get (map (opened equations) (side_list sides)) k)) (sym node) (row-alike b equations kids sides k nodes holds row)
+    subst (λ (at : Node). EndAlike b equations (slice_get at.kids k) (slice_get (map (given_way equations) (side_list sides)) k)) (sym node) (row-alike b equations kids sides k nodes holds row)
 
 -- from nodes that stand for their terms walks end alike
 pub walks-alike : (b : Nodes) (equations : List Equation) (n : ℕ) (w : Side) (path : List ℕ) → AreNodes b → Holds b equations → Final b equations n w →
@@ -117,13 +117,13 @@ one-leaf b o p x y nodes l m = (there, back)
     back e = let ends = l.ends in let stops = m.ends in let same : l.leaf ≡ m.leaf = cc in nodes.apart x y l.leaf l.found (m.found ∙ ap Some (sym same))
 
 -- the graph from what the root gives way to is the solution
-pub solution-of : (b : Nodes) (system : System) (root : ℕ) → AreNodes b → StandsFor b root system.side → Holds b system.equations → IsSolution system (tied_graph b) (target_of b root)
+pub solution-of : (b : Nodes) (system : EquationSystem) (root : ℕ) → AreNodes b → StandsFor b root system.side → Holds b system.equations → IsSolution system (tied_graph b) (target_at b root)
 solution-of b system root nodes s holds = record {
-  shown = λ path. ends-agree b system.equations (end_of (tied_graph b) (target_of b root) path) (side_at system path) nodes (alike path);
-  leaves = λ path other x y here there. one-leaf b (end_of (tied_graph b) (target_of b root) path) (end_of (tied_graph b) (target_of b root) other) x y nodes
-      (free-end b system.equations (end_of (tied_graph b) (target_of b root) path) (side_at system path) x (alike path) here)
-      (free-end b system.equations (end_of (tied_graph b) (target_of b root) other) (side_at system other) y (alike other) there);
+  shown = λ path. ends-agree b system.equations (end_of (tied_graph b) (target_at b root) path) (side_at system path) nodes (alike path);
+  leaves = λ path other x y here there. one-leaf b (end_of (tied_graph b) (target_at b root) path) (end_of (tied_graph b) (target_at b root) other) x y nodes
+      (free-end b system.equations (end_of (tied_graph b) (target_at b root) path) (side_at system path) x (alike path) here)
+      (free-end b system.equations (end_of (tied_graph b) (target_at b root) other) (side_at system other) y (alike other) there);
 }
   where
-    alike : (path : List ℕ) → EndAlike b system.equations (end_of (tied_graph b) (target_of b root) path) (side_at system path)
-    alike path = walks-alike b system.equations (target_of b root) (opened system.equations system.side) path nodes holds (target-final b system.equations root system.side nodes holds s)
+    alike : (path : List ℕ) → EndAlike b system.equations (end_of (tied_graph b) (target_at b root) path) (side_at system path)
+    alike path = walks-alike b system.equations (target_at b root) (given_way system.equations system.side) path nodes holds (target-final b system.equations root system.side nodes holds s)

@@ -4,7 +4,7 @@ use Rattle.mars_tree.specs.declared.label.Label.{Label}
 use Rattle.mars_tree.specs.declared.label.NameId.{NameId}
 use Rattle.mars_tree.specs.Graph.{Node, labelled, label_of}
 use Rattle.mars_graphs.specs.declared.maker.Head.{Head}
-use Rattle.mars_graphs.specs.Nodes.{Nodes, no_nodes, leaf_of_variable, target_of, nodes_with, nodes_with_variable, nodes_with_target, gives_way, AreNodes, tied_graph}
+use Rattle.mars_graphs.specs.Nodes.{Nodes, no_nodes, leaf_of_variable, target_at, nodes_with, nodes_with_variable, nodes_with_target, gives_way, AreNodes, tied_graph}
 use Rattle.mars_graphs.specs.Steps.{TreeStep, Variable, Leaf, Open, Close, Equate, Define, label_over, terms_before, no_variable}
 
 -- as `Writing`, with a node for each term and a leaf for each variable
@@ -75,7 +75,7 @@ abbrev pub made_graph : Making → List Node
 made_graph m = tied_graph (whole m).0
 
 abbrev pub made_root : Making → ℕ
-made_root m = target_of (whole m).0 (whole m).1
+made_root m = target_at (whole m).0 (whole m).1
 
 -- a leaf of some variable
 abbrev pub IsSomeLeaf : Nodes → Option ℕ → Type 0

@@ -27,8 +27,8 @@ leaf_of_variable b x = leaf_among x b.leaves
 abbrev pub target_among : List ℕ → ℕ → ℕ
 target_among targets n = slice_index_or targets n n
 
-abbrev pub target_of : Nodes → ℕ → ℕ
-target_of b n = target_among b.targets n
+abbrev pub target_at : Nodes → ℕ → ℕ
+target_at b n = target_among b.targets n
 
 -- with one node more
 abbrev pub nodes_with : Nodes → Node → Nodes
@@ -46,7 +46,7 @@ nodes_with_target b leaf root = record b { targets = slice_set b.targets leaf ro
 
 -- whether a leaf gives way to another node
 abbrev pub gives_way : Nodes → ℕ → Bool
-gives_way b leaf = not (target_of b leaf == leaf)
+gives_way b leaf = not (target_at b leaf == leaf)
 
 -- whether a variable has an equation: its leaf gives way
 abbrev pub has_target : Nodes → NameId → Bool
@@ -69,7 +69,7 @@ HasLabel (labelled l sides) = Unit {0}
 
 -- the equations so far: each variable's leaf gives way to a node of the term that the variable is equal to
 pub record Holds (b : Nodes) (equations : List Equation) : Type 0 where
-  pub each : (x : NameId) (leaf : ℕ) → leaf_of_variable b x ≡ Some leaf → StandsFor b (target_of b leaf) (equal_to equations x)
+  pub each : (x : NameId) (leaf : ℕ) → leaf_of_variable b x ≡ Some leaf → StandsFor b (target_at b leaf) (equal_to equations x)
   pub known : All (λ e. IsSome (leaf_of_variable b e.variable)) equations
   pub applied : All (λ e. HasLabel e.side) equations
 
@@ -99,7 +99,7 @@ pub record AreNodes (b : Nodes) : Type 0 where
   pub size : length b.targets ≡ length b.nodes
   pub in_range : All (λ target. target < length b.nodes) b.targets
   -- a labelled node gives way to none
-  pub kept : (n : ℕ) (node : Node) → slice_get b.nodes n ≡ Some node → node.label ≢ None → target_of b n ≡ n
+  pub kept : (n : ℕ) (node : Node) → slice_get b.nodes n ≡ Some node → node.label ≢ None → target_at b n ≡ n
   pub free : (x : NameId) (leaf : ℕ) → leaf_of_variable b x ≡ Some leaf → slice_get b.nodes leaf ≡ Some free_leaf
   -- two variables have two leaves
   pub apart : (x y : NameId) (leaf : ℕ) → leaf_of_variable b x ≡ Some leaf → leaf_of_variable b y ≡ Some leaf → x ≡ y

@@ -2,8 +2,8 @@
 use Rattle.mars_graphs.specs.declared.nodes.NodeMaker.TheInside.{Inside}
 use Rattle.mars_graphs.specs.Nodes.{Nodes, AreNodes}
 
-abbrev pub nodes_of : Inside → Nodes
-nodes_of b = record { nodes = b.graph; targets = b.targets.items; leaves = b.leaves.entries }
+abbrev pub nodes_inside : Inside → Nodes
+nodes_inside b = record { nodes = b.graph; targets = b.targets.items; leaves = b.leaves.entries }
 
 abbrev pub AreNodesInside : Inside → Type 0
-AreNodesInside b = AreNodes (nodes_of b)
+AreNodesInside b = AreNodes (nodes_inside b)

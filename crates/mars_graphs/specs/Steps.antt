@@ -6,7 +6,7 @@ use Rattle.mars_tree.specs.declared.label.NameId.{NameId}
 use Rattle.mars_tree.specs.declared.label.Label.TheVariants as label
 use Rattle.mars_graphs.specs.declared.maker.Head.{Head}
 use Rattle.mars_graphs.specs.declared.maker.Head.TheVariants as head
-use Rattle.mars_graphs.specs.Systems.{same_variable, Side, variable, labelled, side_row, Equation, System}
+use Rattle.mars_graphs.specs.Systems.{same_variable, Side, variable, labelled, side_row, Equation, EquationSystem}
 
 -- one step of a tree that is written
 pub data TreeStep : Type 0 where
@@ -89,5 +89,5 @@ writes_all w [] = w
 writes_all w (step ∷ steps) = writes_all (writes w step) steps
 
 -- the system that is written; where there is no term, the variable with the first number takes its place
-abbrev pub system_of : Writing → System
+abbrev pub system_of : Writing → EquationSystem
 system_of w = record { side = slice_index_or w.terms 0 (variable no_variable); equations = w.equations }

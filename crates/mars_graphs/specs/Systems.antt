@@ -38,7 +38,7 @@ pub record Equation : Type 0 where
   pub side : Side
 
 -- a term, and the equations of its variables
-pub record System : Type 0 where
+pub record EquationSystem : Type 0 where
   pub side : Side
   pub equations : List Equation
 
@@ -48,14 +48,14 @@ equal_to [] x = variable x
 equal_to (e ∷ equations) x = if same_variable x e.variable then e.side else equal_to equations x
 
 -- a term, where a variable alone gives way to what it is equal to
-abbrev pub opened : List Equation → Side → Side
-opened equations (variable x) = equal_to equations x
-opened equations (labelled l sides) = labelled l sides
+abbrev pub given_way : List Equation → Side → Side
+given_way equations (variable x) = equal_to equations x
+given_way equations (labelled l sides) = labelled l sides
 
 -- the terms under a term
 abbrev pub sides_under : List Equation → Side → List Side
 sides_under equations (variable x) = []
-sides_under equations (labelled l sides) = map (opened equations) (side_list sides)
+sides_under equations (labelled l sides) = map (given_way equations) (side_list sides)
 
 -- what a term is at its root: a label, or a variable without an equation
 pub data Tip : Type 0 where
@@ -68,11 +68,11 @@ tip_of (variable x) = free x
 tip_of (labelled l sides) = label l
 
 -- the term at the end of a path
-abbrev pub side_at : System → List ℕ → Option Side
-side_at system path = walk (sides_under system.equations) (opened system.equations system.side) path
+abbrev pub side_at : EquationSystem → List ℕ → Option Side
+side_at system path = walk (sides_under system.equations) (given_way system.equations system.side) path
 
 -- what a system says at the end of a path
-abbrev pub tip_at : System → List ℕ → Option Tip
+abbrev pub tip_at : EquationSystem → List ℕ → Option Tip
 tip_at system path = option_map tip_of (side_at system path)
 
 -- a graph shows what is said: the same label, or a free leaf
@@ -83,7 +83,7 @@ ShowsTip (Some (free x)) (Some (graph.free n)) = Unit {0}
 ShowsTip _ _ = ⊥
 
 -- the graph from the root is the solution: the same along every path, and one leaf for each variable that has no equation
-pub record IsSolution (system : System) (g : List Node) (root : ℕ) : Type 0 where
+pub record IsSolution (system : EquationSystem) (g : List Node) (root : ℕ) : Type 0 where
   pub shown : (path : List ℕ) → ShowsTip (tip_at system path) (graph.at g root path)
   pub leaves : (path other : List ℕ) (x y : NameId) → tip_at system path ≡ Some (free x) → tip_at system other ≡ Some (free y) →
       (x ≡ y) ↔ (end_of g root path ≡ end_of g root other)

@@ -4,7 +4,7 @@ ghost use Rattle.mars_tree.specs.declared.label.NameId.{NameId};
 ghost use Rattle.mars_tree.specs.Label.{arity_of};
 ghost use Rattle.mars_tree.specs.Graph.{labelled, label_of};
 ghost use Rattle.mars_graphs.specs.Making.{tied_nodes};
-ghost use Rattle.mars_graphs.specs.Nodes.{no_nodes, AreNodes, leaf_of_variable, target_of, gives_way, nodes_with, nodes_with_variable, nodes_with_target, tied_graph};
+ghost use Rattle.mars_graphs.specs.Nodes.{no_nodes, AreNodes, leaf_of_variable, target_at, gives_way, nodes_with, nodes_with_variable, nodes_with_target, tied_graph};
 
 use crate::redirect::{redirect, set_kids};
 use indexmap::IndexMap;
@@ -26,9 +26,9 @@ impl Model for NodeMaker {
 
     ghost Value = { Nodes };
 
-    ghost use Rattle.mars_graphs.specs.NodesInside.{nodes_of, AreNodesInside};
+    ghost use Rattle.mars_graphs.specs.NodesInside.{nodes_inside, AreNodesInside};
 
-    ghost view = { nodes_of };
+    ghost view = { nodes_inside };
 
     ghost invariant = { AreNodesInside };
 }
@@ -136,7 +136,7 @@ impl NodeMaker {
     pub(crate) fn finish(self, root: usize) -> (Graph, usize)
         requires { root < length self.nodes }
         ensures graph { result.0 ≡ tied_graph self }
-        ensures root { result.1 ≡ target_of self root }
+        ensures root { result.1 ≡ target_at self root }
         ensures root_in { result.1 < length result.0 }
     {
         let NodeMaker {
