@@ -1,10 +1,10 @@
 -- First nodes: they are the same tree where components share one.
-use Rattle.std.proofs.Common.{◌≡◌, ◌≢◌, ◌↔◌, ◌⊎◌, ℕ, zero, suc, ◌<◌, ◌≤◌, ◌+◌, Bool, true, false, cond, List, [], ◌∷◌, length, map, Option, Some, None, option_and_then, slice_get, slice_index_or, refl, sym, ap, ◌∙◌, subst, arith, inl, inr, Contains, eq-eqb, All}
+use Rattle.std.proofs.Common.{◌≡◌, ◌↔◌, ◌⊎◌, ℕ, zero, suc, ◌<◌, Bool, true, false, cond, List, [], ◌∷◌, length, map, Option, Some, None, option_and_then, slice_get, slice_index_or, refl, sym, ap, ◌∙◌, subst, arith, inl, inr, Contains, eq-eqb}
 use Rattle.std.specs.List.{AllZip, filter}
 use Rattle.std.specs.Option.{option_map}
 use Rattle.std.proofs.lemmas.Option.{same_Some, slice_get-map}
 use Rattle.std.proofs.lemmas.Bool.{cases_lt, cases_eq, false≢true}
-use Rattle.mars_tree.specs.Graph.{Node, IsGraph, label_of, kids_of, end_of, shown_at, Same}
+use Rattle.mars_tree.specs.Graph.{Node, label_of, kids_of, shown_at, Same}
 use Rattle.mars_tree.specs.Walk.{walk}
 use Rattle.mars_tree.proofs.Paths.{kids_from_label, kid_in, end_in, stands_from_label, label_in}
 use Rattle.mars_tree.proofs.Walks.{same_from_bisimulation}
@@ -15,11 +15,11 @@ use Rattle.mars_comp.specs.Key.{inner, inner_kids, same_part, item_of, entry}
 use Rattle.mars_comp.specs.KeyLaws.{IsParted, IsOuterKid, NumbersTell}
 use Rattle.mars_comp.specs.Least.{IsAtMost, IsMember}
 use Rattle.mars_comp.specs.LeastLaws.{ShareTree}
-use Rattle.mars_first.specs.First.{row_along, IsLess, IsBefore, IsLevel, Selects, Differ, IsNarrowed, Narrows, IsFirst, done, step}
+use Rattle.mars_first.specs.First.{row_along, IsLess, IsBefore, Selects, Differ, IsNarrowed, Narrows, done, step}
 use Rattle.mars_first.specs.FirstLaws.{FirstKeysTell}
 use Rattle.mars_comp.specs.declared.items.Item.{Item}
 use Rattle.mars_comp.specs.declared.items.Item.TheVariants as item
-use Rattle.mars_comp.proofs.Following.{IsTwin, same_turned, same_on, same_end, same_label, same_kid, turned, twin_part, twin_parts, twin_kids}
+use Rattle.mars_comp.proofs.Following.{IsTwin, same_turned, same_on, same_end, same_label, same_kid, twin_part, twin_parts, twin_kids}
 use Rattle.mars_comp.proofs.Inner.{inner_are}
 use Rattle.mars_comp.proofs.KeyTrees.{map_same, member_kid, key_trees, twin_zip}
 use Rattle.mars_comp.proofs.LeastTrees.{tell_from, tell_turned, share_turned, zip_weaker}

@@ -1,2 +1,9 @@
+pub mod Choosing
+pub mod Differing
+pub mod Ending
 pub mod FirstTrees
+pub mod Linking
+pub mod Narrowed
+pub mod Placing
+pub mod Staging
 pub mod UpTo

@@ -1,10 +1,10 @@
--- Paths are gone in order, and nodes that a class holds are taken for one: what stands behind the paths so far is alike all the same.
-use Rattle.std.proofs.Common.{◌≡◌, ◌⊎◌, ℕ, zero, suc, ◌<◌, ◌≤◌, ◌+◌, List, [], ◌∷◌, ◌++◌, length, Option, Some, None, option_and_then, slice_get, refl, sym, ap, ◌∙◌, subst, arith, inl, inr, append-nil, append_assoc}
+-- Paths are followed in order, and nodes that a class holds are taken for one: what is at the ends of the paths so far is alike all the same.
+use Rattle.std.proofs.Common.{◌≡◌, ◌⊎◌, ℕ, ◌<◌, List, [], ◌∷◌, ◌++◌, Option, Some, option_and_then, slice_get, refl, sym, ap, ◌∙◌, subst, arith, inl, inr, append-nil, append_assoc}
 use Rattle.std.specs.Option.{option_map}
 use Rattle.std.proofs.lemmas.List.{length-append}
 use Rattle.mars_tree.specs.Walk.{walk}
 use Rattle.mars_first.specs.First.{IsLess, IsBefore}
-use Rattle.mars_comp.specs.declared.items.Item.{Item}
+use Rattle.mars_first.specs.StagesInside.{KidsAt, no_kid, both, Chain, itself, linked}
 
 -- the order of paths
 less_trans : (p q r : List ℕ) → IsLess p q → IsLess q r → IsLess p r
@@ -52,27 +52,17 @@ up_to_append p q s r (inl lt) before = before_trans (p ++ s) (q ++ s) r (before_
 up_to_append p q s r (inr same) before = subst (λ (x : List ℕ). IsBefore (x ++ s) r) (sym same) before
 
 -- what stands at the end of a path
-abbrev pub seen : (ℕ → List ℕ) → (ℕ → List Item) → ℕ → List ℕ → Option (List Item)
+abbrev pub seen : (ℕ → List ℕ) → (ℕ → ℕ) → ℕ → List ℕ → Option ℕ
 seen kids row n path = option_map row (walk kids n path)
 
--- kids at one place: none from both, or one from each, of which something holds
-pub data KidsAt (kids : ℕ → List ℕ) (P : ℕ → Type 0) (a b k : ℕ) : Type 0 where
-  no_kid : slice_get (kids a) k ≡ None → slice_get (kids b) k ≡ None → KidsAt kids P a b k
-  both : (x y : ℕ) → slice_get (kids a) k ≡ Some x → slice_get (kids b) k ≡ Some y → P x → P y → KidsAt kids P a b k
-
--- nodes that links join whose paths have a bound
-pub data Chain (Link : List ℕ → ℕ → ℕ → Type 0) (Bound : List ℕ → Type 0) : ℕ → ℕ → Type 0 where
-  itself : (x : ℕ) → Chain Link Bound x x
-  linked : (x y z : ℕ) (p : List ℕ) → Bound p → Link p x y ⊎ Link p y x → Chain Link Bound y z → Chain Link Bound x z
-
 -- the stages before a path are done: one row stands at each, its nodes are joined, and the kids of what is linked are in one stage
-pub record AreDone (kids : ℕ → List ℕ) (row : ℕ → List Item) (Stage : List ℕ → ℕ → Type 0) (Link : List ℕ → ℕ → ℕ → Type 0) (until : List ℕ) : Type 0 where
+pub record AreDone (kids : ℕ → List ℕ) (row : ℕ → ℕ) (Stage : List ℕ → ℕ → Type 0) (Link : List ℕ → ℕ → ℕ → Type 0) (until : List ℕ) : Type 0 where
   pub level : (q : List ℕ) (x y : ℕ) → IsBefore q until → Stage q x → Stage q y → row x ≡ row y
   pub joined : (q : List ℕ) (x y : ℕ) → IsBefore q until → Stage q x → Stage q y → Chain Link (λ p. IsUpTo p q) x y
   pub follows : (q : List ℕ) (a b k : ℕ) → Link q a b → KidsAt kids (Stage (q ++ k ∷ [])) a b k
 
-module _ (kids : ℕ → List ℕ) (row : ℕ → List Item) (Stage : List ℕ → ℕ → Type 0) (Link : List ℕ → ℕ → ℕ → Type 0) (until : List ℕ) (done : AreDone kids row Stage Link until) where
-  -- the nodes of each stage are alike behind a path
+module _ (kids : ℕ → List ℕ) (row : ℕ → ℕ) (Stage : List ℕ → ℕ → Type 0) (Link : List ℕ → ℕ → ℕ → Type 0) (until : List ℕ) (done : AreDone kids row Stage Link until) where
+  -- the nodes of each stage are alike at the end of a path
   abbrev Alike : List ℕ → Type 0
   Alike s = (q : List ℕ) (x y : ℕ) → IsBefore (q ++ s) until → Stage q x → Stage q y → seen kids row x s ≡ seen kids row y s
 
@@ -98,7 +88,7 @@ module _ (kids : ℕ → List ℕ) (row : ℕ → List Item) (Stage : List ℕ �
   stage_alike (k ∷ t) q x y before left right =
       chain_alike k t (λ p. IsUpTo p q) x y (stage_alike t) (λ p up. up_to_append p q (k ∷ t) until up before) (done.joined q x y (before_front q k t until before) left right)
 
-  -- what stands behind a path, up to the first that isn't done, shows in the stages: a node of the stage stands for a candidate
+  -- what is at the end of a path, up to the first that isn't done, shows in the stages
   abbrev pub Shows : List ℕ → ℕ → ℕ → Type 0
   Shows q c v = (s : List ℕ) → IsUpTo (q ++ s) until → seen kids row c (q ++ s) ≡ seen kids row v s
 
@@ -122,6 +112,6 @@ module _ (kids : ℕ → List ℕ) (row : ℕ → List Item) (Stage : List ℕ �
   pub shows_end : (c v : ℕ) → Shows until c v → seen kids row c until ≡ Some (row v)
   shows_end c v shows = ap (seen kids row c) (sym (append-nil until)) ∙ shows [] (inr (append-nil until))
 
-  -- candidates are alike behind each path before it
+  -- candidates are alike at the end of each path before it
   pub roots_alike : (q : List ℕ) (a b : ℕ) → IsBefore q until → Stage [] a → Stage [] b → seen kids row a q ≡ seen kids row b q
   roots_alike q a b before left right = stage_alike q [] a b before left right
