@@ -6,7 +6,8 @@ use Rattle.std.specs.Map.{lookup}
 use Rattle.mars_tree.specs.Graph.{Node}
 use Rattle.mars_comp.specs.Components.{component_of}
 use Rattle.mars_comp.specs.KeyLaws.{IsParted, IsOuterKid}
-use Rattle.mars_comp.specs.Least.{IsMember, IsLeast}
+use Rattle.mars_comp.specs.Least.{IsMember}
+use Rattle.mars_first.specs.First.{IsFirst}
 use Rattle.mars_comp.specs.declared.items.Item.{Item}
 use Rattle.mars_comp.specs.declared.items.Key.{Key}
 use Rattle.mars_comp.specs.contracts.items.KeyPartialEq.TheImpl as key_eq
@@ -35,7 +36,7 @@ IsNumber rows g n h = HasRow rows h × IsRowOf rows h g n
 
 -- the key that stands for the component of a node, and the nodes at its places
 abbrev pub IsChosen : List Node → List ℕ → List ℕ → ℕ → List ℕ → List Item → Type 0
-IsChosen g parts outside n nodes key = IsLeast g parts outside n nodes key
+IsChosen g parts outside n nodes key = IsFirst g parts outside n nodes key
 
 -- rows that are the trees of a component of some graph, place by place, where kids outside have the numbers of their rows
 pub record IsEntry (rows : List Row) (key : List Item) (numbers : List ℕ) : Type 0 where

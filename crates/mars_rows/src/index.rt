@@ -14,7 +14,8 @@ use crate::heads::heads;
 use crate::stock::Stock;
 use indexmap::IndexMap;
 use mars_base::NoMemory;
-use mars_comp::{Components, Key, components, least};
+use mars_comp::{Components, Key, components};
+use mars_first::first;
 use mars_tree::Graph;
 use std::alloc::Global;
 
@@ -66,7 +67,7 @@ fn look_up_part(
     requires kids { KidsGuessed (stock_rows stock.now.nodes stock.now.numbers.items) tree.now parts.now head numbers.old.items }
     ensures { IfOk result (λ found. IsLooked (stock_rows stock.now.nodes stock.now.numbers.items) tree.now parts.now head found numbers.old.items numbers.new.items) }
 {
-    let made = least(alloc, tree, parts, head, numbers)?;
+    let made = first(alloc, tree, parts, head, numbers)?;
     match stock.index.get(&made.key) {
         Some(rows) => {
             put_numbers(numbers, &made.nodes, rows);
@@ -129,7 +130,7 @@ fn entry_of(
     requires head_in { head < length graph.now }
     ensures { IfOk result (λ entry. IsMade graph.now parts.now names.now head entry.0.items.items entry.1.items) }
 {
-    let made = least(alloc, graph, parts, head, names)?;
+    let made = first(alloc, graph, parts, head, names)?;
     let numbers = numbers_at(alloc, names, &made.nodes)?;
     Ok((made.key, numbers))
 }
