@@ -1,0 +1,5 @@
+-- Promised: what the events of an input say, and the trees that it writes.
+pub mod Trees
+pub mod Scripts
+-- Inside: the code's maker, as the definitions see it.
+pub mod Told
