@@ -122,8 +122,8 @@ with_whole (finished_clause.Ask ask) v = with_command (Some (command.Ask ask)) v
 with_whole finished_clause.Neither v = with_command (command_told v.word v) v
 
 -- a rule or a command ends with its semicolon
-abbrev pub ended : Scripts → Scripts
-ended v = without_tree (record (with_whole (finished v.clause) v) { clause = begun false [] })
+abbrev pub with_ended : Scripts → Scripts
+with_ended v = without_tree (record (with_whole (finished v.clause) v) { clause = begun false [] })
 
 -- What a token tells that a symbol takes, beside what it tells of a rule, an ask or a tree.
 abbrev pub script_read : FormSymbol → ValuedToken → Scripts → Scripts
@@ -132,7 +132,7 @@ script_read due.Sessions t v = record (with_session_whole v) { word = t.kind }
 script_read due.Commands t v = record v { word = t.kind }
 script_read due.OneName t v = with_name v.word t.name v
 script_read due.OneVariable t v = collected t.name v
-script_read due.OneSemicolon t v = ended v
+script_read due.OneSemicolon t v = with_ended v
 script_read due.OneEnd t v = with_session_whole v
 script_read _ t v = v
 

@@ -57,9 +57,9 @@ steps_told (Read s t ∷ events) = step_before (token_told s t) (steps_told even
 steps_told (Say a ∷ events) = step_before (action_told a) (steps_told events)
 
 -- what is made by a step, where there is one
-abbrev pub made_by : Option TreeStep → Making → Making
-made_by None m = m
-made_by (Some step) m = makes m step
+abbrev pub made_by_step : Option TreeStep → Making → Making
+made_by_step None m = m
+made_by_step (Some step) m = makes m step
 
 -- nothing is read yet
 abbrev pub no_tree : TreeMaker
@@ -67,7 +67,7 @@ no_tree = record { graph = nothing_made; place = 0 }
 
 -- the tree with what a step makes
 abbrev pub with_step : Option TreeStep → TreeMaker → TreeMaker
-with_step step v = record { graph = made_by step v.graph; place = v.place }
+with_step step v = record { graph = made_by_step step v.graph; place = v.place }
 
 -- after an event
 abbrev pub tree_event : Event FormSymbol ValuedToken FormAction → TreeMaker → TreeMaker

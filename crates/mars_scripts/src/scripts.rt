@@ -167,7 +167,7 @@ impl ScriptMaker {
 
     /// A rule or a command is whole.
     fn end(&mut self) -> Result<(), NoMemory>
-        ensures { OnOk result (scripts_of self.new ≡ told.ended (scripts_of self.old)) }
+        ensures { OnOk result (scripts_of self.new ≡ told.with_ended (scripts_of self.old)) }
     {
         match self.clause.finish()? {
             FinishedClause::Rule(rule) => self.add_rule(rule)?,
