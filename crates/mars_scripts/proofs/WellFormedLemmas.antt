@@ -31,7 +31,7 @@ use Rattle.mars_clauses.specs.Lists.{Clauses, clauses, clauses_from, stored, cla
 use Rattle.mars_clauses.specs.WellFormed.{MakesWellFormed, AreWellFormed}
 use Rattle.mars_scripts.specs.declared.trees.TreeMaker.{TreeMaker}
 use Rattle.mars_scripts.specs.Trees.{token_told, action_told, step_before, steps_told, made_by_step, tree_event, tree_making}
-use Rattle.mars_scripts.specs.Scripts.{Scripts, nothing_told, sessions_with, with_session_whole, with_name, with_rule, session_with, with_command, command_told, with_whole, with_ended, script_read, scripts_event, scripts_making}
+use Rattle.mars_scripts.specs.Scripts.{Scripts, nothing_told, sessions_with, with_session_whole, with_next_name, with_rule, session_with, with_command, command_told, with_whole, with_ended, script_read, scripts_event, scripts_making}
 use Rattle.mars_scripts.specs.WellFormed.{IsWellFormedCommand, IsWellFormedScript, MakesWellFormedInput, MakesTold, IsNoEnd, TellsTree}
 
 -- steps one after the other
@@ -49,7 +49,7 @@ abbrev before : FormSymbol → ValuedToken → Scripts → Scripts
 before s t v = record v { clause = clause_read s t v.clause; tree = tree_event (Read s t) v.tree }
 
 -- nothing but a semicolon takes a tree away
-name-tree : (k : TokenKind) (name : NameId) (v : Scripts) → (with_name k name v).tree ≡ v.tree
+name-tree : (k : TokenKind) (name : NameId) (v : Scripts) → (with_next_name k name v).tree ≡ v.tree
 name-tree kind.Session name v = refl
 name-tree _ name v = refl
 
@@ -109,7 +109,7 @@ sessions-good (Some session) sessions is all = All-push IsWellFormedScript sessi
 session-whole : (v : Scripts) → IsTold v → IsTold (with_session_whole v)
 session-whole v is = record { rules = is.rules; sessions = sessions-good v.session v.sessions is.session is.sessions; session = tt; tree = is.tree }
 
-name-good : (k : TokenKind) (name : NameId) (v : Scripts) → IsTold v → IsTold (with_name k name v)
+name-good : (k : TokenKind) (name : NameId) (v : Scripts) → IsTold v → IsTold (with_next_name k name v)
 name-good kind.Session name v is = record { rules = is.rules; sessions = is.sessions; session = record { rules = All-nil IsRule; commands = All-nil IsWellFormedCommand }; tree = is.tree }
 name-good _ name v is = record { rules = is.rules; sessions = is.sessions; session = is.session; tree = is.tree }
 
@@ -177,7 +177,7 @@ stored-reading (finished_clause.Rule rule) c = refl
 stored-reading (finished_clause.Ask ask) c = refl
 stored-reading finished_clause.Neither c = refl
 
-name-clause : (k : TokenKind) (name : NameId) (v : Scripts) → (with_name k name v).clause ≡ v.clause
+name-clause : (k : TokenKind) (name : NameId) (v : Scripts) → (with_next_name k name v).clause ≡ v.clause
 name-clause kind.Session name v = refl
 name-clause _ name v = refl
 
