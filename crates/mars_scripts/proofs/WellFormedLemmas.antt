@@ -8,7 +8,6 @@ use Rattle.mars_grammar.specs.FormTable.{Event, Read, Say}
 use Rattle.mars_grammar.specs.Building.{Build, performs}
 use Rattle.mars_tree.specs.declared.label.NameId.{NameId}
 use Rattle.mars_term.specs.declared.clause.Rule.{Rule}
-use Rattle.mars_term.specs.declared.clause.Ask.{Ask}
 use Rattle.mars_term.specs.Clauses.{IsRule, IsAsk}
 use Rattle.mars_script.specs.declared.script.Command.{Command}
 use Rattle.mars_script.specs.declared.script.Command.TheVariants as command
@@ -18,9 +17,9 @@ use Rattle.mars_forms.specs.declared.lexeme.TokenKind.TheVariants as kind
 use Rattle.mars_forms.specs.declared.symbol.FormSymbol.{FormSymbol}
 use Rattle.mars_forms.specs.declared.symbol.FormSymbol.TheVariants as due
 use Rattle.mars_forms.specs.declared.symbol.FormAction.{FormAction}
-use Rattle.mars_graphs.specs.Nodes.{Nodes, target_of, tied, tied_graph, nodes_with_variable, AreNodes}
+use Rattle.mars_graphs.specs.Nodes.{Nodes, target_of, tied, tied_graph, AreNodes}
 use Rattle.mars_graphs.specs.Steps.{TreeStep, no_variable}
-use Rattle.mars_graphs.specs.Making.{Making, nothing_made, makes, makes_all, rooted, whole, made_graph, made_root, IsMaking}
+use Rattle.mars_graphs.specs.Making.{Making, makes_all, rooted, made_graph, made_root, IsMaking}
 use Rattle.mars_graphs.proofs.Building.{slice_get-new}
 use Rattle.mars_graphs.proofs.Standing.{nodes-variable}
 use Rattle.mars_graphs.proofs.Makes.{making-nothing, making-step, variable-within}
@@ -32,7 +31,7 @@ use Rattle.mars_clauses.specs.Lists.{Clauses, clauses, clauses_from, stored, cla
 use Rattle.mars_clauses.specs.WellFormed.{MakesWellFormed, AreWellFormed}
 use Rattle.mars_scripts.specs.declared.trees.TreeMaker.{TreeMaker}
 use Rattle.mars_scripts.specs.Trees.{token_told, action_told, step_before, steps_told, made_by_step, tree_event, tree_making}
-use Rattle.mars_scripts.specs.Scripts.{Scripts, nothing_told, sessions_with, with_session_whole, collected, with_name, with_rule, session_with, with_command, command_told, with_whole, without_tree, with_ended, script_read, scripts_event, scripts_making}
+use Rattle.mars_scripts.specs.Scripts.{Scripts, nothing_told, sessions_with, with_session_whole, with_next_name, with_rule, session_with, with_command, command_told, with_whole, with_ended, script_read, scripts_event, scripts_making}
 use Rattle.mars_scripts.specs.WellFormed.{IsWellFormedCommand, IsWellFormedScript, MakesWellFormedInput, MakesTold, IsNoEnd, TellsTree}
 
 -- steps one after the other
@@ -50,7 +49,7 @@ abbrev before : FormSymbol → ValuedToken → Scripts → Scripts
 before s t v = record v { clause = clause_read s t v.clause; tree = tree_event (Read s t) v.tree }
 
 -- nothing but a semicolon takes a tree away
-name-tree : (k : TokenKind) (name : NameId) (v : Scripts) → (with_name k name v).tree ≡ v.tree
+name-tree : (k : TokenKind) (name : NameId) (v : Scripts) → (with_next_name k name v).tree ≡ v.tree
 name-tree kind.Session name v = refl
 name-tree _ name v = refl
 
@@ -110,7 +109,7 @@ sessions-good (Some session) sessions is all = All-push IsWellFormedScript sessi
 session-whole : (v : Scripts) → IsTold v → IsTold (with_session_whole v)
 session-whole v is = record { rules = is.rules; sessions = sessions-good v.session v.sessions is.session is.sessions; session = tt; tree = is.tree }
 
-name-good : (k : TokenKind) (name : NameId) (v : Scripts) → IsTold v → IsTold (with_name k name v)
+name-good : (k : TokenKind) (name : NameId) (v : Scripts) → IsTold v → IsTold (with_next_name k name v)
 name-good kind.Session name v is = record { rules = is.rules; sessions = is.sessions; session = record { rules = All-nil IsRule; commands = All-nil IsWellFormedCommand }; tree = is.tree }
 name-good _ name v is = record { rules = is.rules; sessions = is.sessions; session = is.session; tree = is.tree }
 
@@ -178,7 +177,7 @@ stored-reading (finished_clause.Rule rule) c = refl
 stored-reading (finished_clause.Ask ask) c = refl
 stored-reading finished_clause.Neither c = refl
 
-name-clause : (k : TokenKind) (name : NameId) (v : Scripts) → (with_name k name v).clause ≡ v.clause
+name-clause : (k : TokenKind) (name : NameId) (v : Scripts) → (with_next_name k name v).clause ≡ v.clause
 name-clause kind.Session name v = refl
 name-clause _ name v = refl
 

@@ -77,9 +77,9 @@ abbrev pub collected : NameId → Scripts → Scripts
 collected name v = record v { before = v.last; last = name }
 
 -- a name: the session's, or one more of a command
-abbrev pub with_name : TokenKind → NameId → Scripts → Scripts
-with_name kind.Session name v = record v { session = Some (new_session name) }
-with_name _ name v = collected name v
+abbrev pub with_next_name : TokenKind → NameId → Scripts → Scripts
+with_next_name kind.Session name v = record v { session = Some (new_session name) }
+with_next_name _ name v = collected name v
 
 -- a rule: before the first session it is the input's own
 abbrev pub with_rule : Option Script → Rule → Scripts → Scripts
@@ -130,7 +130,7 @@ abbrev pub script_read : FormSymbol → ValuedToken → Scripts → Scripts
 script_read due.Input t v = record v { version = version_of t.kind }
 script_read due.Sessions t v = record (with_session_whole v) { word = t.kind }
 script_read due.Commands t v = record v { word = t.kind }
-script_read due.OneName t v = with_name v.word t.name v
+script_read due.OneName t v = with_next_name v.word t.name v
 script_read due.OneVariable t v = collected t.name v
 script_read due.OneSemicolon t v = with_ended v
 script_read due.OneEnd t v = with_session_whole v

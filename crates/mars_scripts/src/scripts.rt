@@ -86,7 +86,7 @@ impl ScriptMaker {
 
     /// A name: of a session that begins, or of the command at hand.
     fn name(&mut self, name: NameId)
-        ensures { scripts_of self.new ≡ told.with_name (scripts_of self.old).word name (scripts_of self.old) }
+        ensures { scripts_of self.new ≡ told.with_next_name (scripts_of self.old).word name (scripts_of self.old) }
     {
         match self.word {
             TokenKind::Session => {
