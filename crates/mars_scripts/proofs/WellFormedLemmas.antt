@@ -17,7 +17,7 @@ use Rattle.mars_forms.specs.declared.lexeme.TokenKind.TheVariants as kind
 use Rattle.mars_forms.specs.declared.symbol.FormSymbol.{FormSymbol}
 use Rattle.mars_forms.specs.declared.symbol.FormSymbol.TheVariants as due
 use Rattle.mars_forms.specs.declared.symbol.FormAction.{FormAction}
-use Rattle.mars_graphs.specs.Nodes.{Nodes, target_of, tied, tied_graph, AreNodes}
+use Rattle.mars_graphs.specs.Nodes.{Nodes, target_at, tied, tied_graph, AreNodes}
 use Rattle.mars_graphs.specs.Steps.{TreeStep, no_variable}
 use Rattle.mars_graphs.specs.Making.{Making, makes_all, rooted, made_graph, made_root, IsMaking}
 use Rattle.mars_graphs.proofs.Building.{slice_get-new}
@@ -69,12 +69,12 @@ tells-tree (e ∷ events) v none =
     ∙ ap (λ (tree : TreeMaker). performs tree_making events tree) (event-tree e v (All-head IsNoEnd e events none))
 
 -- the root of a graph that is made
-target-within : (b : Nodes) (n : ℕ) → AreNodes b → n < length b.nodes → target_of b n < length (tied_graph b)
+target-within : (b : Nodes) (n : ℕ) → AreNodes b → n < length b.nodes → target_at b n < length (tied_graph b)
 target-within b n nodes less =
-    let within : target_of b n < length b.nodes = All-get_or (λ target. target < length b.nodes) b.targets n n (omega (arith, less, nodes.size)) nodes.in_range in
+    let within : target_at b n < length b.nodes = All-get_or (λ target. target < length b.nodes) b.targets n n (omega (arith, less, nodes.size)) nodes.in_range in
     omega (arith, within, length-map b.nodes (tied b.targets))
 
-root-by : (m : Making) (o : Option ℕ) → slice_get m.terms 0 ≡ o → IsMaking m → target_of (rooted m o).0 (rooted m o).1 < length (tied_graph (rooted m o).0)
+root-by : (m : Making) (o : Option ℕ) → slice_get m.terms 0 ≡ o → IsMaking m → target_at (rooted m o).0 (rooted m o).1 < length (tied_graph (rooted m o).0)
 root-by m None e is = target-within (rooted m None).0 (rooted m None).1 (nodes-variable m.nodes no_variable is.nodes) (variable-within m.nodes no_variable is.nodes)
 root-by m (Some root) e is = target-within m.nodes root is.nodes (All-get (λ term. term < length m.nodes.nodes) m.terms 0 root is.terms e)
 
