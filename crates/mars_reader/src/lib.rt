@@ -1,0 +1,14 @@
+//! The reader: the meanings of tokens, and the makers that are told them.
+#![tactic(auto)]
+
+mod laws;
+mod more_names;
+mod spelled;
+mod spellings;
+mod tree;
+
+pub use laws::tree_follows_steps;
+pub use more_names::MoreNames;
+pub use spelled::Spelled;
+pub use spellings::{TokenMeanings, TokenRole};
+pub use tree::TreeMaker;
