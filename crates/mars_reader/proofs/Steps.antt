@@ -1,13 +1,12 @@
 -- What events make of a graph is what their steps make.
-use Rattle.std.proofs.Common.{◌≡◌, List, [], ◌∷◌, Option, Some, None, refl, ap, sym, ◌∙◌}
+use Rattle.std.proofs.Common.{◌≡◌, List, [], ◌∷◌, Option, Some, None, refl, ap, ◌∙◌}
 use Rattle.mars_grammar.specs.FormTable.{Event, Read, Say}
-use Rattle.mars_grammar.specs.Building.{performs}
 use Rattle.mars_forms.specs.declared.symbol.FormSymbol.{FormSymbol}
 use Rattle.mars_forms.specs.declared.symbol.FormAction.{FormAction}
 use Rattle.mars_clauses.specs.declared.maker.ValuedToken.{ValuedToken}
 use Rattle.mars_graphs.specs.Steps.{TreeStep}
 use Rattle.mars_graphs.specs.Making.{Making, makes_all}
-use Rattle.mars_reader.specs.TreeMaking.{TreeMaking, tree_making, tree_event, made_by, step_told, steps_with, steps_told, with_refusal, TreeFollowsSteps}
+use Rattle.mars_reader.specs.TreeMaking.{TreeMaking, tree_event, made_by, step_told, steps_with, steps_told, TreeFollowsSteps}
 
 -- a refusal doesn't change the graph
 graph-after : (e : Event FormSymbol ValuedToken FormAction) (v : TreeMaking) → (tree_event e v).graph ≡ made_by (step_told e) v.graph

@@ -1,5 +1,5 @@
 -- What a maker is told of a text's events, and what becomes of the spellings.
-use Rattle.std.proofs.Common.{◌≡◌, ℕ, List, [], ◌∷◌, ◌++◌, refl, ap, sym, ◌∙◌}
+use Rattle.std.proofs.Common.{◌≡◌, List, [], ◌∷◌, refl, ◌∙◌}
 use Rattle.mars_grammar.specs.FormTable.{Event, Read, Say}
 use Rattle.mars_grammar.specs.Building.{Build, performs}
 use Rattle.mars_forms.specs.declared.lexeme.Lexeme.{Lexeme}

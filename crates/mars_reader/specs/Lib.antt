@@ -2,3 +2,5 @@
 pub mod Spellings
 pub mod Spelled
 pub mod TreeMaking
+pub mod Refused
+pub mod ReadTree

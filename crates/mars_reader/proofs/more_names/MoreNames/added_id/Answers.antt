@@ -1,4 +1,4 @@
-use Rattle.std.proofs.Common.{◌≡◌, ℕ, ◌+◌, List, Some, ap, sym, ◌∙◌, map, length, if◌then◌else◌, ◌++◌, ◌∷◌, [], arith}
+use Rattle.std.proofs.Common.{◌≡◌, ℕ, ◌+◌, List, Some, ap, sym, ◌∙◌, length, if◌then◌else◌, ◌++◌, ◌∷◌, []}
 use Rattle.std.proofs.lemmas.Result.{IfOk-weaker}
 use Rattle.std.proofs.lemmas.List.{length-append, length-map}
 use Rattle.mars_tree.specs.declared.label.NameId.{NameId}
