@@ -6,15 +6,15 @@ use Rattle.mars_forms.specs.declared.symbol.FormAction.{FormAction}
 use Rattle.mars_clauses.specs.declared.maker.ValuedToken.{ValuedToken}
 use Rattle.mars_graphs.specs.Steps.{TreeStep}
 use Rattle.mars_graphs.specs.Making.{Making, makes_all}
-use Rattle.mars_reader.specs.TreeMaking.{TreeMaking, tree_event, made_by, step_told, steps_with, steps_told, TreeFollowsSteps}
+use Rattle.mars_reader.specs.TreeMaking.{TreeMaking, tree_event, made_after, step_told, steps_with, steps_told, TreeFollowsSteps}
 
 -- a refusal doesn't change the graph
-graph-after : (e : Event FormSymbol ValuedToken FormAction) (v : TreeMaking) → (tree_event e v).graph ≡ made_by (step_told e) v.graph
+graph-after : (e : Event FormSymbol ValuedToken FormAction) (v : TreeMaking) → (tree_event e v).graph ≡ made_after (step_told e) v.graph
 graph-after (Read s t) v = refl
 graph-after (Say a) v = refl
 
 -- a step, if there is one, goes first
-first-step : (o : Option TreeStep) (m : Making) (steps : List TreeStep) → makes_all (made_by o m) steps ≡ makes_all m (steps_with o steps)
+first-step : (o : Option TreeStep) (m : Making) (steps : List TreeStep) → makes_all (made_after o m) steps ≡ makes_all m (steps_with o steps)
 first-step None m steps = refl
 first-step (Some step) m steps = refl
 

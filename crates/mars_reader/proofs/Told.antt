@@ -8,14 +8,14 @@ use Rattle.mars_forms.specs.declared.symbol.FormAction.{FormAction}
 use Rattle.mars_clauses.specs.declared.maker.ValuedToken.{ValuedToken}
 use Rattle.mars_reader.specs.declared.spellings.TokenRole.{TokenRole}
 use Rattle.mars_reader.specs.declared.spellings.TokenRole.TheVariants as role
-use Rattle.mars_reader.specs.Spellings.{Spellings, names_in, with_texts, meaning_at, meaning_of, role_of, with_token, with_token_as}
-use Rattle.mars_reader.specs.Spelled.{spelled, events_told, spellings_after}
+use Rattle.mars_reader.specs.Spellings.{Spellings, all_names, with_texts, meaning_at, meaning_of, role_of, with_token, with_token_as}
+use Rattle.mars_reader.specs.Spelled.{spelled_out, events_told, spellings_after}
 use Rattle.mars_tokens.specs.Tokens.{spelling_at}
 use Rattle.mars_reader.proofs.NameFacts.{new-with}
 
 -- what is made is what is made of the meanings
 pub told-performs : {V L : Type 0} (B : Build (Event FormSymbol ValuedToken FormAction) V L) (es : List (Event FormSymbol Lexeme FormAction)) (v : Spellings × V) →
-    performs (spelled B) es v ≡ (spellings_after v.0 es, performs B (events_told v.0 es) v.1)
+    performs (spelled_out B) es v ≡ (spellings_after v.0 es, performs B (events_told v.0 es) v.1)
 told-performs B [] v = refl
 told-performs B (Read s t ∷ es) v = told-performs B es (with_token s t v.0, B.perform (Read s (meaning_of s t v.0)) v.1)
 told-performs B (Say a ∷ es) v = told-performs B es (v.0, B.perform (Say a) v.1)
@@ -34,14 +34,14 @@ known-after (Read s t ∷ es) v = known-after es (with_token s t v) ∙ known-as
 known-after (Say a ∷ es) v = known-after es v
 
 -- the names that are added are new
-new-as : (r : TokenRole) (t : Lexeme) (v : Spellings) → with_texts v.known v.added ≡ names_in v → with_texts (with_token_as r t v).known (with_token_as r t v).added ≡ names_in (with_token_as r t v)
+new-as : (r : TokenRole) (t : Lexeme) (v : Spellings) → with_texts v.known v.added ≡ all_names v → with_texts (with_token_as r t v).known (with_token_as r t v).added ≡ all_names (with_token_as r t v)
 new-as role.Sign t v e = e
 new-as role.Name t v e = new-with (spelling_at v.text t) v.known v.added e
 new-as role.Variable t v e = e
 new-as role.Integer t v e = e
 new-as role.Text t v e = new-with (meaning_at t v) v.known v.added e
 
-pub new-after : (es : List (Event FormSymbol Lexeme FormAction)) (v : Spellings) → with_texts v.known v.added ≡ names_in v → with_texts (spellings_after v es).known (spellings_after v es).added ≡ names_in (spellings_after v es)
+pub new-after : (es : List (Event FormSymbol Lexeme FormAction)) (v : Spellings) → with_texts v.known v.added ≡ all_names v → with_texts (spellings_after v es).known (spellings_after v es).added ≡ all_names (spellings_after v es)
 new-after [] v e = e
 new-after (Read s t ∷ es) v e = new-after es (with_token s t v) (new-as (role_of s t.kind) t v e)
 new-after (Say a ∷ es) v e = new-after es v e

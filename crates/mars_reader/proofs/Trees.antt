@@ -14,7 +14,7 @@ use Rattle.mars_clauses.specs.Limits.{counting, nothing_counted}
 use Rattle.mars_graphs.specs.Systems.{IsSolution}
 use Rattle.mars_graphs.specs.Making.{Making, nothing_made, makes_all, made_graph, made_root}
 use Rattle.mars_graphs.proofs.Telling.{made-solves}
-use Rattle.mars_reader.specs.Spellings.{Spellings, spellings_from, names_in, with_texts}
+use Rattle.mars_reader.specs.Spellings.{Spellings, spellings_from, all_names, with_texts}
 use Rattle.mars_reader.specs.Spelled.{events_told, spellings_after}
 use Rattle.mars_reader.specs.TreeMaking.{TreeMaking, tree_making, nothing_read, steps_told}
 use Rattle.mars_reader.specs.Refused.{is_too_long}
@@ -45,9 +45,9 @@ module _ (bytes : List ℕ) (old : List (List ℕ)) (w : TreeValue) (r : IsTreeT
   spelt = ap (λ x. x.0) (r.made ∙ told-performs (both counting tree_making) r.events (tree_begins bytes old))
 
   -- the names that are added come after those that were there
-  pub names-read : with_texts old w.0.added ≡ names_in w.0
+  pub names-read : with_texts old w.0.added ≡ all_names w.0
   names-read =
-      subst (λ (s : Spellings). with_texts old s.added ≡ names_in s) (sym spelt)
+      subst (λ (s : Spellings). with_texts old s.added ≡ all_names s) (sym spelt)
       (ap (λ known. with_texts known (spellings_after (spellings_from bytes old) r.events).added) (sym (known-after r.events (spellings_from bytes old)))
       ∙ new-after r.events (spellings_from bytes old) (sym (append-nil old)))
 

@@ -16,8 +16,8 @@ use Rattle.mars_graphs.specs.Steps.{nothing_written, writes_all, system_of}
 use Rattle.mars_graphs.specs.Making.{made_graph, made_root}
 use Rattle.mars_reader.specs.declared.error.ReadError.{ReadError}
 use Rattle.mars_reader.specs.declared.reading.TreeParts.{TreeParts}
-use Rattle.mars_reader.specs.Spellings.{Spellings, spellings_from, names_in}
-use Rattle.mars_reader.specs.Spelled.{spelled, events_told}
+use Rattle.mars_reader.specs.Spellings.{Spellings, spellings_from, all_names}
+use Rattle.mars_reader.specs.Spelled.{spelled_out, events_told}
 use Rattle.mars_reader.specs.TreeMaking.{TreeMaking, tree_making, nothing_read, steps_told}
 use Rattle.mars_reader.specs.Refused.{IsReadAs, IsRefusedAs, either_limit}
 
@@ -26,7 +26,7 @@ abbrev pub TreeValue : Type 0
 TreeValue = Spellings × (InputCounts × TreeMaking)
 
 abbrev pub tree_building : Build (Event FormSymbol Lexeme FormAction) TreeValue (Which OverLimit OverLimit)
-tree_building = spelled (both counting tree_making)
+tree_building = spelled_out (both counting tree_making)
 
 -- the beginning of it, over these names
 abbrev pub tree_begins : List ℕ → List (List ℕ) → TreeValue
@@ -48,7 +48,7 @@ system_told v es = system_of (writes_all nothing_written (steps_told (events_tol
 pub record IsReadTree (bytes : List ℕ) (old new : List (List ℕ)) (g : List Node) (root : ℕ) : Type 0 where
   pub value : TreeValue
   pub read : IsTreeText bytes old value
-  pub names : new ≡ names_in value.0
+  pub names : new ≡ all_names value.0
   pub graph : g ≡ made_graph value.1.1.graph
   pub root_is : root ≡ made_root value.1.1.graph
   pub solves : IsSolution (system_told (spellings_from bytes old) read.events) g root

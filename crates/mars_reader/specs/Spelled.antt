@@ -14,8 +14,8 @@ spelled_event B (Read s t) v = (with_token s t v.0, B.perform (Read s (meaning_o
 spelled_event B (Say a) v = (v.0, B.perform (Say a) v.1)
 
 -- What is made of a text: its names and variables, and what a maker makes of its tokens' meanings.
-abbrev pub spelled : {V L : Type 0} → Build (Event FormSymbol ValuedToken FormAction) V L → Build (Event FormSymbol Lexeme FormAction) (Spellings × V) L
-spelled B = record { perform = spelled_event B; refuses = λ v. B.refuses v.1 }
+abbrev pub spelled_out : {V L : Type 0} → Build (Event FormSymbol ValuedToken FormAction) V L → Build (Event FormSymbol Lexeme FormAction) (Spellings × V) L
+spelled_out B = record { perform = spelled_event B; refuses = λ v. B.refuses v.1 }
 
 -- the events of a text with the meanings of its tokens
 abbrev pub events_told : Spellings → List (Event FormSymbol Lexeme FormAction) → List (Event FormSymbol ValuedToken FormAction)

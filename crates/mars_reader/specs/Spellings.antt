@@ -28,8 +28,8 @@ abbrev pub spellings_from : List ℕ → List (List ℕ) → Spellings
 spellings_from text known = record { text = text; known = known; added = []; vars = built_in_names }
 
 -- all names: those that were there, and after them those that are added
-abbrev pub names_in : Spellings → List (List ℕ)
-names_in v = v.known ++ v.added
+abbrev pub all_names : Spellings → List (List ℕ)
+all_names v = v.known ++ v.added
 
 -- the names that are added with a text, which goes last where it is new
 abbrev pub added_with : List ℕ → List (List ℕ) → List (List ℕ) → List (List ℕ)
@@ -44,12 +44,12 @@ with_texts names (text ∷ texts) = with_texts (with_text text names) texts
 abbrev pub with_name : List ℕ → Spellings → Spellings
 with_name text v = record v { added = added_with text v.known v.added }
 
-abbrev pub with_variable : List ℕ → Spellings → Spellings
-with_variable text v = record v { vars = with_text text v.vars }
+abbrev pub with_variable_text : List ℕ → Spellings → Spellings
+with_variable_text text v = record v { vars = with_text text v.vars }
 
 -- the number of a name, and of a variable that is no name
 abbrev pub name_in : List ℕ → Spellings → NameId
-name_in text v = record { 0 = name_number text (names_in v) }
+name_in text v = record { 0 = name_number text (all_names v) }
 
 abbrev pub variable_in : List ℕ → Spellings → NameId
 variable_in text v = record { 0 = name_number text v.vars }
@@ -126,7 +126,7 @@ meaning_as role.Text t v = valued t (name_in (meaning_at t v) v) (pos 0)
 abbrev pub with_token_as : TokenRole → Lexeme → Spellings → Spellings
 with_token_as role.Sign t v = v
 with_token_as role.Name t v = with_name (spelling_at v.text t) v
-with_token_as role.Variable t v = with_variable (spelling_at v.text t) v
+with_token_as role.Variable t v = with_variable_text (spelling_at v.text t) v
 with_token_as role.Integer t v = v
 with_token_as role.Text t v = with_name (meaning_at t v) v
 

@@ -59,9 +59,9 @@ step_told (Read s t) = read_step s t
 step_told (Say a) = said_step a
 
 -- what a step makes, if there is one
-abbrev pub made_by : Option TreeStep → Making → Making
-made_by None m = m
-made_by (Some step) m = makes m step
+abbrev pub made_after : Option TreeStep → Making → Making
+made_after None m = m
+made_after (Some step) m = makes m step
 
 -- the refusal so far, or that of a token by which a variable has two equations
 abbrev pub twice_over : Option OverLimit → Bool → ℕ → Option OverLimit
@@ -76,7 +76,7 @@ with_refusal (Say a) over m = record { graph = m; over = over }
 
 -- after an event
 abbrev pub tree_event : Event FormSymbol ValuedToken FormAction → TreeMaking → TreeMaking
-tree_event e v = with_refusal e v.over (made_by (step_told e) v.graph)
+tree_event e v = with_refusal e v.over (made_after (step_told e) v.graph)
 
 -- What the events of a tree make.
 abbrev pub tree_making : Build (Event FormSymbol ValuedToken FormAction) TreeMaking OverLimit
@@ -96,5 +96,5 @@ abbrev pub TreeFollowsSteps : Type 0
 TreeFollowsSteps = (events : List (Event FormSymbol ValuedToken FormAction)) (v : TreeMaking) → (performs tree_making events v).graph ≡ makes_all v.graph (steps_told events)
 
 -- the code's graph and refusal
-abbrev pub tree_of : TreeMaker → TreeMaking
-tree_of s = record { graph = s.graph; over = s.over }
+abbrev pub tree_making_of : TreeMaker → TreeMaking
+tree_making_of s = record { graph = s.graph; over = s.over }

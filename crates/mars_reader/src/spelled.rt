@@ -2,7 +2,7 @@
 ghost use Rattle.std.specs.Prelude.{◌≡◌};
 ghost use Rattle.mars_clauses.specs.declared.maker.ValuedToken.{ValuedToken};
 ghost use Rattle.mars_reader.specs.Spellings.{spellings_of};
-ghost use Rattle.mars_reader.specs.Spelled.{spelled};
+ghost use Rattle.mars_reader.specs.Spelled.{spelled_out};
 
 use crate::TokenMeanings;
 use mars_base::NoMemory;
@@ -26,7 +26,7 @@ impl<'a, const TWO: bool, M: Maker> Builder<Forms<TWO>> for Spelled<'a, M> {
 
     ghost view = { λ s. (spellings_of s.meanings, M.view s.maker) };
 
-    ghost build = { spelled M.build };
+    ghost build = { spelled_out M.build };
 
     fn read(&mut self, symbol: FormSymbol, token: Lexeme) -> Result<(), NoMemory> {
         let meaning = self.meanings.meaning(symbol, token)?;

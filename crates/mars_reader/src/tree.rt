@@ -1,7 +1,7 @@
 //! The maker of the graph of a tree that is read.
 ghost use Rattle.std.specs.Prelude.{◌≡◌, OnOk};
 ghost use Rattle.mars_reader.specs.TreeMaking as told;
-ghost use Rattle.mars_reader.specs.TreeMaking.{tree_of, tree_making, nothing_read};
+ghost use Rattle.mars_reader.specs.TreeMaking.{tree_making_of, tree_making, nothing_read};
 
 use mars_base::NoMemory;
 use mars_clauses::{InputLimit, Maker, OverLimit, ValuedToken};
@@ -20,7 +20,7 @@ pub struct TreeMaker {
 impl TreeMaker {
     /// Nothing is read yet. Takes no memory.
     pub fn new(alloc: Global) -> TreeMaker
-        ensures { tree_of result ≡ nothing_read }
+        ensures { tree_making_of result ≡ nothing_read }
     {
         TreeMaker {
             graph: GraphMaker::new(alloc),
@@ -30,7 +30,7 @@ impl TreeMaker {
 
     /// A token of a term.
     fn part(&mut self, token: ValuedToken) -> Result<(), NoMemory>
-        ensures graph { OnOk result (self.new.graph ≡ told.made_by (told.put_step token.kind token) self.old.graph) }
+        ensures graph { OnOk result (self.new.graph ≡ told.made_after (told.put_step token.kind token) self.old.graph) }
         ensures over { OnOk result (self.new.over ≡ self.old.over) }
     {
         match token.kind {
@@ -45,7 +45,7 @@ impl TreeMaker {
 
     /// A token that a symbol takes.
     fn step(&mut self, symbol: FormSymbol, token: ValuedToken) -> Result<(), NoMemory>
-        ensures graph { OnOk result (self.new.graph ≡ told.made_by (told.read_step symbol token) self.old.graph) }
+        ensures graph { OnOk result (self.new.graph ≡ told.made_after (told.read_step symbol token) self.old.graph) }
         ensures over { OnOk result (self.new.over ≡ self.old.over) }
     {
         match symbol {
@@ -85,7 +85,7 @@ impl Maker for TreeMaker {
 
     ghost Value = { TreeMaking };
 
-    ghost view = { tree_of };
+    ghost view = { tree_making_of };
 
     ghost build = { tree_making };
 
