@@ -1,0 +1,5 @@
+mod Steps
+mod Told
+mod NameFacts
+mod Refusals
+mod Trees
