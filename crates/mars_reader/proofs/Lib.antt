@@ -1,4 +1,3 @@
-mod Steps
 mod Told
 mod NameFacts
 mod Refusals

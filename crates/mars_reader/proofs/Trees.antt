@@ -16,11 +16,12 @@ use Rattle.mars_graphs.specs.Making.{Making, nothing_made, makes_all, made_graph
 use Rattle.mars_graphs.proofs.Telling.{made-solves}
 use Rattle.mars_reader.specs.Spellings.{Spellings, spellings_from, all_names, with_texts}
 use Rattle.mars_reader.specs.Spelled.{events_told, spellings_after}
-use Rattle.mars_reader.specs.TreeMaking.{TreeMaking, tree_making, nothing_read, steps_told}
+use Rattle.mars_scripts.specs.declared.trees.TreeMaker.{TreeMaker}
+use Rattle.mars_scripts.specs.Trees.{tree_making, no_tree, steps_told}
 use Rattle.mars_reader.specs.Refused.{is_too_long}
 use Rattle.mars_reader.specs.ReadTree.{TreeValue, tree_building, tree_begins, IsTreeText, system_told}
 use Rattle.mars_reader.proofs.Told.{told-performs, known-after, new-after}
-use Rattle.mars_reader.proofs.Steps.{follows-steps}
+use Rattle.mars_scripts.proofs.WellFormedLemmas.{makes-told}
 use Rattle.mars_reader.proofs.Refusals.{text-unrefused}
 
 -- where the machine ends well, the text is read
@@ -37,7 +38,7 @@ machine-reads bytes old lexemes r v w begins short t made within = record {
 }
 
 -- the beginning of what is made, part by part
-pub begins-parts : (s t : Spellings) (c d : InputCounts) (g h : TreeMaking) → s ≡ t → c ≡ d → g ≡ h → ◌≡◌ {A = TreeValue} (s, (c, g)) (t, (d, h))
+pub begins-parts : (s t : Spellings) (c d : InputCounts) (g h : TreeMaker) → s ≡ t → c ≡ d → g ≡ h → ◌≡◌ {A = TreeValue} (s, (c, g)) (t, (d, h))
 begins-parts s t c d g h e f i = ap (λ x. (x, (c, g))) e ∙ ap (λ x. (t, (x, g))) f ∙ ap (λ x. (t, (d, x))) i
 
 module _ (bytes : List ℕ) (old : List (List ℕ)) (w : TreeValue) (r : IsTreeText bytes old w) where
@@ -54,8 +55,8 @@ module _ (bytes : List ℕ) (old : List (List ℕ)) (w : TreeValue) (r : IsTreeT
   graph-read : w.1.1.graph ≡ makes_all nothing_made (steps_told (events_told (spellings_from bytes old) r.events))
   graph-read =
       ap (λ x. x.1.1.graph) (r.made ∙ told-performs (both counting tree_making) r.events (tree_begins bytes old)) ∙
-      ap (λ x. x.graph) (both-second counting tree_making (events_told (spellings_from bytes old) r.events) (nothing_counted true, nothing_read)) ∙
-      follows-steps (events_told (spellings_from bytes old) r.events) nothing_read
+      ap (λ x. x.graph) (both-second counting tree_making (events_told (spellings_from bytes old) r.events) (nothing_counted true, no_tree)) ∙
+      makes-told (events_told (spellings_from bytes old) r.events) no_tree
 
   -- the graph is the solution of the system that is written
   pub solution-read : IsSolution (system_told (spellings_from bytes old) r.events) (made_graph w.1.1.graph) (made_root w.1.1.graph)

@@ -1,6 +1,5 @@
--- Promised: what tokens mean, what a maker is told, what the events of a tree make.
+-- Promised: what tokens mean, what a maker is told.
 pub mod Spellings
 pub mod Spelled
-pub mod TreeMaking
 pub mod Refused
 pub mod ReadTree

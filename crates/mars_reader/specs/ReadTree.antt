@@ -11,26 +11,27 @@ use Rattle.mars_forms.specs.declared.table.TheConstants.{TREE}
 use Rattle.mars_clauses.specs.declared.counts.InputCounts.{InputCounts}
 use Rattle.mars_clauses.specs.declared.limits.OverLimit.{OverLimit}
 use Rattle.mars_clauses.specs.Limits.{counting, nothing_counted}
-use Rattle.mars_graphs.specs.Systems.{System, IsSolution}
+use Rattle.mars_graphs.specs.Systems.{EquationSystem, IsSolution}
 use Rattle.mars_graphs.specs.Steps.{nothing_written, writes_all, system_of}
 use Rattle.mars_graphs.specs.Making.{made_graph, made_root}
 use Rattle.mars_reader.specs.declared.error.ReadError.{ReadError}
 use Rattle.mars_reader.specs.declared.reading.TreeParts.{TreeParts}
 use Rattle.mars_reader.specs.Spellings.{Spellings, spellings_from, all_names}
 use Rattle.mars_reader.specs.Spelled.{spelled_out, events_told}
-use Rattle.mars_reader.specs.TreeMaking.{TreeMaking, tree_making, nothing_read, steps_told}
+use Rattle.mars_scripts.specs.declared.trees.TreeMaker.{TreeMaker}
+use Rattle.mars_scripts.specs.Trees.{tree_making, no_tree, steps_told}
 use Rattle.mars_reader.specs.Refused.{IsReadAs, IsRefusedAs, either_limit}
 
 -- what is made of the text of a tree: names, counts and a graph
 abbrev pub TreeValue : Type 0
-TreeValue = Spellings × (InputCounts × TreeMaking)
+TreeValue = Spellings × (InputCounts × TreeMaker)
 
 abbrev pub tree_building : Build (Event FormSymbol Lexeme FormAction) TreeValue (Which OverLimit OverLimit)
 tree_building = spelled_out (both counting tree_making)
 
 -- the beginning of it, over these names
 abbrev pub tree_begins : List ℕ → List (List ℕ) → TreeValue
-tree_begins bytes names = (spellings_from bytes names, (nothing_counted true, nothing_read))
+tree_begins bytes names = (spellings_from bytes names, (nothing_counted true, no_tree))
 
 -- the text is read, and this is made of it
 abbrev pub IsTreeText : List ℕ → List (List ℕ) → TreeValue → Type 0
@@ -41,7 +42,7 @@ abbrev pub IsNoTreeText : List ℕ → List (List ℕ) → ReadError → Type 0
 IsNoTreeText bytes names e = IsRefusedAs true TREE.now tree_building (tree_begins bytes names) bytes either_limit e
 
 -- the system of equations that events write
-abbrev pub system_told : Spellings → List (Event FormSymbol Lexeme FormAction) → System
+abbrev pub system_told : Spellings → List (Event FormSymbol Lexeme FormAction) → EquationSystem
 system_told v es = system_of (writes_all nothing_written (steps_told (events_told v es)))
 
 -- A text of a tree, the names before and after it, and the graph and root that it gives: the solution of the system that it writes.

@@ -2,17 +2,13 @@
 #![tactic(auto)]
 
 mod error;
-mod laws;
 mod more_names;
 mod reading;
 mod spelled;
 mod spellings;
-mod tree;
 
 pub use error::{ReadError, TEXT_LIMIT, What};
-pub use laws::tree_follows_steps;
 pub use more_names::MoreNames;
 pub use reading::read_tree;
 pub use spelled::Spelled;
 pub use spellings::{TokenMeanings, TokenRole};
-pub use tree::TreeMaker;

@@ -8,13 +8,14 @@ ghost use Rattle.mars_reader.specs.Refused.{is_too_long, IsLongRefusal};
 ghost use Rattle.mars_reader.specs.ReadTree.{IsReadTree, IsTreeText, IsNoTreeText, HasTreeParts, KeepsNames};
 
 use crate::error::text_error;
-use crate::{MoreNames, ReadError, Spelled, TEXT_LIMIT, TokenMeanings, TreeMaker, What};
+use crate::{MoreNames, ReadError, Spelled, TEXT_LIMIT, TokenMeanings, What};
 use indexmap::IndexSet;
 use mars_base::NoMemory;
 use mars_clauses::InputCounts;
 use mars_forms::parse_tree;
 use mars_grammar::Both;
 use mars_graphs::GraphMaker;
+use mars_scripts::TreeMaker;
 use mars_tokens::{Tokens, lex};
 use mars_tree::{Graph, Names};
 use std::alloc::Global;
