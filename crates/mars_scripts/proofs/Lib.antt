@@ -1,1 +1,1 @@
-mod WellFormedLemmas
+pub mod WellFormedLemmas

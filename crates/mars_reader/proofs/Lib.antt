@@ -1,0 +1,4 @@
+mod Told
+mod NameFacts
+mod Refusals
+mod Trees

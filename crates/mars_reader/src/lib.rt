@@ -1,0 +1,14 @@
+//! The reader: the meanings of tokens, and the makers that are told them.
+#![tactic(auto)]
+
+mod error;
+mod more_names;
+mod reading;
+mod spelled;
+mod spellings;
+
+pub use error::{ReadError, TEXT_LIMIT, What};
+pub use more_names::MoreNames;
+pub use reading::read_tree;
+pub use spelled::Spelled;
+pub use spellings::{TokenMeanings, TokenRole};
