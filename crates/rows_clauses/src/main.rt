@@ -115,12 +115,14 @@ fn put_ask_short(
 /// Appends a text, at most so many bytes of it. A row has no more than so many bytes of rules and asks either.
 fn put_short(text: &[u8], into: &mut Vec<u8>) -> Result<(), AllocError> {
     if into.len() > 400 {
-        Ok(())
-    } else if text.len() > 80 {
-        into.extend_from_slice(&text[..80])?;
-        into.extend_from_slice(b"..")
-    } else {
-        into.extend_from_slice(text)
+        return Ok(());
+    }
+    match text.get(..81) {
+        Some([front @ .., _]) => {
+            into.extend_from_slice(front)?;
+            into.extend_from_slice(b"..")
+        }
+        _ => into.extend_from_slice(text),
     }
 }
 

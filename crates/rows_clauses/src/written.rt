@@ -25,13 +25,13 @@ fn put_off<'a>(
     work: &mut Vec<Work<'a>>,
 ) -> Result<(), AllocError> {
     work.push(Work::Piece(after))?;
-    let mut place = terms.len();
-    while place > 0 {
-        place -= 1;
-        work.push(Work::One(&terms[place]))?;
-        if place > 0 {
+    let mut is_last = true;
+    for term in terms.iter().rev() {
+        if !is_last {
             work.push(Work::Piece(","))?;
         }
+        work.push(Work::One(term))?;
+        is_last = false;
     }
     Ok(())
 }
