@@ -1,0 +1,2 @@
+-- Inside: tokens with their meanings, promised to nobody.
+pub mod Looked
