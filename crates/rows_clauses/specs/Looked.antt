@@ -14,12 +14,12 @@ meaning_or (Some token) = token
 meaning_or None = record { kind = kind.Refused; start = 0; name = record { 0 = 0 }; number = pos 0 }
 
 -- the token at a place
-abbrev pub meaning_at : List ValuedToken → ℕ → ValuedToken
-meaning_at tokens place = meaning_or (slice_get tokens place)
+abbrev pub meaning_of_place : List ValuedToken → ℕ → ValuedToken
+meaning_of_place tokens place = meaning_or (slice_get tokens place)
 
 -- an event is told with the token at its place
 abbrev pub looked_event : {V L : Type 0} → Build (Event FormSymbol ValuedToken FormAction) V L → Event FormSymbol Lexeme FormAction → (List ValuedToken × V) → (List ValuedToken × V)
-looked_event B (Read s t) v = (v.0, B.perform (Read s (meaning_at v.0 t.start)) v.1)
+looked_event B (Read s t) v = (v.0, B.perform (Read s (meaning_of_place v.0 t.start)) v.1)
 looked_event B (Say a) v = (v.0, B.perform (Say a) v.1)
 
 abbrev pub looked_up : {V L : Type 0} → Build (Event FormSymbol ValuedToken FormAction) V L → Build (Event FormSymbol Lexeme FormAction) (List ValuedToken × V) L

@@ -1,7 +1,7 @@
 //! A maker that is told the events of a text whose tokens' meanings are in a list.
 ghost use Rattle.std.specs.Prelude.{◌≡◌};
 ghost use Rattle.mars_clauses.specs.declared.maker.ValuedToken.{ValuedToken};
-ghost use Rattle.rows_clauses.specs.Looked.{looked_up, meaning_at};
+ghost use Rattle.rows_clauses.specs.Looked.{looked_up, meaning_of_place};
 
 use mars_base::NoMemory;
 use mars_clauses::{Maker, ValuedToken};
@@ -17,8 +17,8 @@ pub struct Looked<'a, M> {
 }
 
 /// The meaning of the token at a place.
-fn meaning_at(meanings: &[ValuedToken], place: u32) -> ValuedToken
-    ensures { result ≡ meaning_at meanings.now place }
+fn meaning_of_place(meanings: &[ValuedToken], place: u32) -> ValuedToken
+    ensures { result ≡ meaning_of_place meanings.now place }
 {
     match meanings.get(place as usize) {
         Some(token) => *token,
@@ -43,7 +43,7 @@ impl<'a, const TWO: bool, M: Maker> Builder<Forms<TWO>> for Looked<'a, M> {
     ghost build = { looked_up M.build };
 
     fn read(&mut self, symbol: FormSymbol, token: Lexeme) -> Result<(), NoMemory> {
-        let meaning = meaning_at(self.meanings, token.start);
+        let meaning = meaning_of_place(self.meanings, token.start);
         self.maker.read(symbol, meaning)
     }
 
