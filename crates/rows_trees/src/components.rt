@@ -1,9 +1,10 @@
-//! Rows on components: `components NODES`, `key NODE : NUMBERS : NODES` and `leastkey NODE : NUMBERS : NODES`, where the
+//! Rows on components: `components NODES`, `key NODE : NUMBERS : NODES`, and the same with `leastkey` or `firstkey`, where the
 //! numbers are those that each node has outside its component.
 ghost use Rattle.std.specs.Prelude.{◌≡◌, length, IfOk};
 
 use mars_base::NoMemory;
-use mars_comp::{Components, Item, Key, Least, components, key, least};
+use mars_comp::{Components, Item, Key, components, key, least};
+use mars_first::first;
 use mars_tree::{Graph, Names};
 use rows::{Layout, Stop, push_label, push_number, push_numbers, read_numbers};
 use std::alloc::Global;
@@ -121,11 +122,16 @@ fn push_key_of(
     Ok(push_key(&laid.names, &key, into)?)
 }
 
-/// Writes a least key, and the nodes at its places.
-fn push_first(names: &Names, first: &Least, into: &mut Vec<u8>) -> Result<(), NoMemory> {
-    push_key(names, &first.key, into)?;
+/// Writes a key, and the nodes at its places.
+fn push_with_nodes(
+    names: &Names,
+    key: &Key,
+    nodes: &[usize],
+    into: &mut Vec<u8>,
+) -> Result<(), NoMemory> {
+    push_key(names, key, into)?;
     into.extend_from_slice(b"from ")?;
-    push_numbers(&first.nodes, b" ", into)
+    push_numbers(nodes, b" ", into)
 }
 
 /// Writes the least key of a node's component, and the nodes at its places.
@@ -141,11 +147,29 @@ fn push_least_key(
     if node >= graph.len() || parts.len() != graph.len() || outside.len() != graph.len() {
         return Err(Stop::OtherParts);
     }
-    let first = least(alloc, graph, &parts, node, outside)?;
-    Ok(push_first(&laid.names, &first, into)?)
+    let least = least(alloc, graph, &parts, node, outside)?;
+    Ok(push_with_nodes(&laid.names, &least.key, &least.nodes, into)?)
 }
 
-/// Answers with a key of a node's component: that from the node, or the least one with the nodes at its places.
+/// Writes the key of a node's component from its first node, and the nodes at its places.
+fn push_first_key(
+    alloc: Global,
+    laid: &Layout,
+    node: usize,
+    outside: &[u128],
+    into: &mut Vec<u8>,
+) -> Result<(), Stop> {
+    let graph = &laid.graph;
+    let parts = components(alloc, graph)?;
+    if node >= graph.len() || parts.len() != graph.len() || outside.len() != graph.len() {
+        return Err(Stop::OtherParts);
+    }
+    let first = first(alloc, graph, &parts, node, outside)?;
+    Ok(push_with_nodes(&laid.names, &first.key, &first.nodes, into)?)
+}
+
+/// Answers with a key of a node's component: that from the node, or the least one or the first
+/// one with the nodes at its places.
 pub fn answer_keyed(
     alloc: Global,
     word: &str,
@@ -160,9 +184,9 @@ pub fn answer_keyed(
         return Err(Stop::NoNode);
     };
     let outside = read_outside(alloc, outside)?;
-    if word == "key" {
-        push_key_of(alloc, laid, node, &outside, into)
-    } else {
-        push_least_key(alloc, laid, node, &outside, into)
+    match word {
+        "key" => push_key_of(alloc, laid, node, &outside, into),
+        "leastkey" => push_least_key(alloc, laid, node, &outside, into),
+        _ => push_first_key(alloc, laid, node, &outside, into),
     }
 }

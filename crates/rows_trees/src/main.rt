@@ -53,7 +53,7 @@ fn answer_on(
         "nodes" => Ok(push_graph(&laid.names, &laid.graph, into)?),
         "classes" => refining::answer_classes(alloc, &laid.graph, into),
         "components" => components::answer_components(alloc, &laid.graph, into),
-        "key" | "leastkey" => components::answer_keyed(alloc, word, parts, laid, into),
+        "key" | "leastkey" | "firstkey" => components::answer_keyed(alloc, word, parts, laid, into),
         _ => {
             let roots = read_numbers(alloc, parts)?;
             answer_roots(alloc, word, &roots, laid, into)
