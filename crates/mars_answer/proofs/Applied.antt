@@ -1,4 +1,4 @@
--- What is known of `x = ff(y)`.
+-- What is known of `x = ff(y)` and of `x = ff(x)`.
 use Rattle.std.proofs.Common.{◌≡◌, ℕ, zero, suc, ◌<◌, List, [], ◌∷◌, length, Some, None, All, slice_index_or, refl, sym, subst, lit≤}
 use Rattle.std.proofs.lemmas.Option.{same_Some, none-some}
 use Rattle.std.proofs.lemmas.List.Elements.{All-nil, All-cons}
@@ -8,7 +8,7 @@ use Rattle.mars_tree.specs.Canonical.{EndAlike}
 use Rattle.mars_store.specs.System.{IsSystem, IsLink}
 use Rattle.mars_store.specs.Shown.{resolved}
 use Rattle.mars_answer.specs.Walks.{ShowsKnown, IsThereAlong}
-use Rattle.mars_answer.specs.Examples.{applied_system, applied_roots, AnswerExamples}
+use Rattle.mars_answer.specs.Examples.{applied_system, applied_roots, looped_system, AnswerExamples}
 use Rattle.mars_answer.proofs.Knowing.{walks_shown}
 
 applied_older : (n : ℕ) → IsNode n (slice_index_or applied_system.nodes n free_leaf)
@@ -48,6 +48,24 @@ not-there there =
     let walk : ℕ × List ℕ = (1, 0 ∷ []) in
     none-some None ((known.leaves walk).1 (there, λ label f. none-some (Some label) ((known.labels walk label).1 f)))
 
+looped_older : (n : ℕ) → IsNode n (slice_index_or looped_system.nodes n free_leaf)
+looped_older zero = record { kids = refl; in_range = All-nil (λ kid. kid < 0) }
+looped_older (suc zero) = record { kids = refl; in_range = All-cons (λ kid. kid < 1) 0 [] (lit≤ tt) (All-nil (λ kid. kid < 1)) }
+looped_older (suc (suc n)) = record { kids = refl; in_range = All-nil (λ kid. kid < suc (suc n)) }
+
+looped_link : IsLink looped_system.nodes (0, 1)
+looped_link = record { variable = record { inside = lit≤ tt; free = refl }; inside = lit≤ tt; falls = lit≤ tt }
+
+looped_sound : IsSystem looped_system
+looped_sound = record {
+  older = looped_older;
+  links = All-cons (IsLink looped_system.nodes) (0, 1) [] looped_link (All-nil (IsLink looped_system.nodes));
+  triangular = (All-nil _, tt);
+}
+
+looped_known : ShowsKnown looped_system (0 ∷ []) (resolved looped_system) (1 ∷ [])
+looped_known = walks_shown looped_system looped_sound (0 ∷ []) (All-cons (λ root. root < 2) 0 [] (lit≤ tt) (All-nil (λ root. root < 2)))
+
 pub answer_examples : AnswerExamples
 answer_examples = record {
   forced = (known.labels (0, []) (named 13 1)).0 refl;
@@ -56,4 +74,7 @@ answer_examples = record {
   two = λ t. apart ((known.alike (0, []) (1, [])).1 t);
   nothing = not-there;
   numbered = refl;
+  deep = (looped_known.labels (0, 0 ∷ 0 ∷ []) (named 13 1)).0 refl;
+  looped = (looped_known.alike (0, []) (0, 0 ∷ [])).0 (1, 1, refl, refl, λ path. refl);
+  roots = refl;
 }
