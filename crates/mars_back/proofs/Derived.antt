@@ -19,7 +19,7 @@ use Rattle.mars_tokens.specs.Words.{word_kind}
 use Rattle.mars_graphs.specs.Systems.{Side, variable, labelled, Sides, no_sides, next_side, Equation, EquationSystem}
 use Rattle.mars_graphs.specs.Steps.{TreeStep}
 use Rattle.mars_back.specs.PartsInside.{TextPart, Token, Blank, Left, dot_symbol, dot_part, side_parts, dot_parts, row_parts, equation_parts, more_parts, where_parts, system_parts, part_lexemes, part_events}
-use Rattle.mars_back.proofs.Sides.{IsWrittenSide, AreWrittenSides, HasRoot, IsWrittenEquation, IsWrittenSystem, side_count, no_tuple}
+use Rattle.mars_back.proofs.Sides.{IsWrittenSide, AreWrittenSides, HasRoot, IsWrittenEquation, IsWrittenSystem, side_count, no_tuple, IsTermSymbol, put, definition, no_name}
 
 -- What is due takes the parts, in whatever mode: no symbol that a mode keeps is left out.
 pub data Reads : List FormSymbol → List TextPart → Type 0 where
@@ -75,14 +75,6 @@ defined : (m : FormMode) → leaves_in (forms true) m due.Define ≡ Some (actio
 defined mode.Fresh = refl
 defined mode.Alone = refl
 defined mode.Free = refl
-
--- a symbol of a term, and what is due after a first side
-data IsTermSymbol : FormSymbol → Type 0 where
-  put : IsTermSymbol due.PutTerm
-  definition : IsTermSymbol due.DefinedTerm
-
-no_name : ◌≡◌ {A = Bool} false true → ⊥
-no_name e = cc
 
 name_taken : (s : FormSymbol) (k : TokenKind) → IsTermSymbol s → is_name true k ≡ true → (forms true).takes s k ≡ Some (due.PutArguments ∷ due.Apply ∷ due.PutTail ∷ [])
 name_taken _ kind.Identifier put e = refl

@@ -24,6 +24,7 @@ use Rattle.mars_tokens.specs.PiecesInside.{first_of, digits_after, after_dash, c
 use Rattle.mars_tokens.specs.Refusals.{over_limit, depth_after, refusal_if}
 use Rattle.mars_tokens.proofs.Prefixes.{if-false, and-left, and-right}
 use Rattle.mars_print.specs.Text.{name_text, escaped, quoted}
+use Rattle.mars_back.proofs.Sides.{no_name}
 use Rattle.mars_back.specs.Written.{is_word_text, is_string_byte, IsStringMeaning, FitsInteger}
 
 -- bytes before which a word or a number ends
@@ -70,9 +71,6 @@ word_first (b ∷ w) rest is stop =
     letter_piece b (w ++ rest) (and-left (is_letter_byte b) (list_all is_word_byte w) is)
     ∙ ap (λ (l : List ℕ). Some (piece.Token (word_kind l), prefix_len is_word_byte (w ++ rest) + 1)) (taken_word b w rest (prefix_len is_word_byte (w ++ rest)) run)
     ∙ ap (λ (n : ℕ). Some (piece.Token (word_kind (b ∷ w)), n)) (add-one (prefix_len is_word_byte (w ++ rest)) ∙ ap suc run)
-
-no_name : ◌≡◌ {A = Bool} false true → ⊥
-no_name e = cc
 
 pub name_limit : (depth : ℕ) (k : TokenKind) (text : List ℕ) → is_name true k ≡ true → length text ≤ TOKEN_LIMIT → over_limit depth k text ≡ None
 name_limit depth kind.Integer text e short = absurd (no_name e)

@@ -25,7 +25,7 @@ use Rattle.mars_reader.specs.Spelled.{events_told, spellings_after}
 use Rattle.mars_print.specs.Text.{name_text, quoted}
 use Rattle.mars_back.specs.Written.{IsStringMeaning, FitsInteger}
 use Rattle.mars_back.specs.PartsInside.{TextPart, Token, Blank, Left, dot_symbol, side_parts, dot_parts, row_parts, equation_parts, more_parts, where_parts, system_parts, parts_text, part_events, step_named, part_steps, variables_with, variables_after, named_in}
-use Rattle.mars_back.proofs.Sides.{IsWrittenSide, AreWrittenSides, side_count, IsWrittenEquation, IsWrittenSystem, no_tuple}
+use Rattle.mars_back.proofs.Sides.{IsWrittenSide, AreWrittenSides, side_count, IsWrittenEquation, IsWrittenSystem, no_tuple, IsTermSymbol, put, definition, no_name}
 use Rattle.mars_back.proofs.FirstTokens.{integer_read, quoted_meaning}
 use Rattle.mars_back.proofs.Numbers.{own_place, own_number, place_later, Extends, extends_all, extends_further, extends_text, number_later}
 
@@ -118,11 +118,7 @@ parts_kept names (Left s a ∷ parts) at v are here known added = parts_kept nam
 
 -- tokens
 
-data IsTerm : FormSymbol → Type 0 where
-  put : IsTerm due.PutTerm
-  definition : IsTerm due.DefinedTerm
-
-variable_told : (names : List (List ℕ)) (s : FormSymbol) (x : NameId) → IsTerm s → IsToldAs names s kind.Placed (name_text x.0) (Some (Variable x))
+variable_told : (names : List (List ℕ)) (s : FormSymbol) (x : NameId) → IsTermSymbol s → IsToldAs names s kind.Placed (name_text x.0) (Some (Variable x))
 variable_told names _ x put = record {
   spelled = refl;
   told = λ a b v e known added. ap (λ (l : List ℕ). Some (Variable (record { 0 = name_number l v.vars }))) e;
@@ -141,13 +137,13 @@ equated_told names x = record {
   kept = λ a b v e known added. ap (λ (l : List ℕ). record v { vars = with_text l v.vars }) e;
 }
 
-integer_told : (names : List (List ℕ)) (s : FormSymbol) (value : ℤ) → IsTerm s → FitsInteger value → IsToldAs names s kind.Integer (signed_decimal value) (Some (Leaf (label.Int value)))
+integer_told : (names : List (List ℕ)) (s : FormSymbol) (value : ℤ) → IsTermSymbol s → FitsInteger value → IsToldAs names s kind.Integer (signed_decimal value) (Some (Leaf (label.Int value)))
 integer_told names s value is fits = record { spelled = tt; told = λ a b v e known added. by s is a b v e; kept = λ a b v e known added. refl }
   where
     read : integer_or (signed_decimal value) ≡ value
     read = let r = integer_read value fits in ap (λ (t : Bool). if t then integer_value (signed_decimal value) else pos 0) r.0 ∙ r.1
 
-    by : (s : FormSymbol) → IsTerm s → (a b : ℕ) (v : Spellings) → spelling_at v.text (lexeme_at kind.Integer a b) ≡ signed_decimal value → token_told s (meaning_of s (lexeme_at kind.Integer a b) v) ≡ Some (Leaf (label.Int value))
+    by : (s : FormSymbol) → IsTermSymbol s → (a b : ℕ) (v : Spellings) → spelling_at v.text (lexeme_at kind.Integer a b) ≡ signed_decimal value → token_told s (meaning_of s (lexeme_at kind.Integer a b) v) ≡ Some (Leaf (label.Int value))
     by _ put a b v e = ap (λ (l : List ℕ). Some (Leaf (label.Int (integer_or l)))) e ∙ ap (λ (z : ℤ). Some (Leaf (label.Int z))) read
     by _ definition a b v e = ap (λ (l : List ℕ). Some (Leaf (label.Int (integer_or l)))) e ∙ ap (λ (z : ℤ). Some (Leaf (label.Int z))) read
 
@@ -163,20 +159,17 @@ none_added names id v distinct id_in known =
     let found : place_of (spelling names id) (v.known ++ v.added) ≡ Some id.0 = ap (λ (l : List (List ℕ)). place_of (spelling names id) (l ++ v.added)) known ∙ place_later (spelling names id) names v.added id.0 (own_place names id distinct id_in) in
     ap (λ (o : Option ℕ). record v { added = if is_some o then v.added else v.added ++ spelling names id ∷ [] }) found
 
-string_told : (names : List (List ℕ)) (s : FormSymbol) (id : NameId) → IsTerm s → AreDistinct names → id.0 < length names → IsStringMeaning (spelling names id) → IsToldAs names s kind.Text (quoted (spelling names id)) (Some (Leaf (label.Str id)))
+string_told : (names : List (List ℕ)) (s : FormSymbol) (id : NameId) → IsTermSymbol s → AreDistinct names → id.0 < length names → IsStringMeaning (spelling names id) → IsToldAs names s kind.Text (quoted (spelling names id)) (Some (Leaf (label.Str id)))
 string_told names s id is distinct id_in fits = record { spelled = tt; told = λ a b v e known added. by s is a b v e known added; kept = λ a b v e known added. ap (λ (l : List ℕ). with_name (string_meaning l) v) e ∙ ap (λ (l : List ℕ). with_name l v) meant ∙ none_added names id v distinct id_in known }
   where
     meant : string_meaning (quoted (spelling names id)) ≡ spelling names id
     meant = quoted_meaning (spelling names id) fits.printed
 
-    by : (s : FormSymbol) → IsTerm s → (a b : ℕ) (v : Spellings) → spelling_at v.text (lexeme_at kind.Text a b) ≡ quoted (spelling names id) → v.known ≡ names → v.added ≡ [] →
+    by : (s : FormSymbol) → IsTermSymbol s → (a b : ℕ) (v : Spellings) → spelling_at v.text (lexeme_at kind.Text a b) ≡ quoted (spelling names id) → v.known ≡ names → v.added ≡ [] →
         token_told s (meaning_of s (lexeme_at kind.Text a b) v) ≡ Some (Leaf (label.Str id))
     by _ put a b v e known added = ap (λ (l : List ℕ). Some (Leaf (label.Str (name_in (string_meaning l) v)))) e ∙ ap (λ (l : List ℕ). Some (Leaf (label.Str (name_in l v)))) meant ∙ ap (λ (n : NameId). Some (Leaf (label.Str n))) (number_in names id v distinct id_in known added)
     by _ definition a b v e known added =
         ap (λ (l : List ℕ). Some (Leaf (label.Str (name_in (string_meaning l) v)))) e ∙ ap (λ (l : List ℕ). Some (Leaf (label.Str (name_in l v)))) meant ∙ ap (λ (n : NameId). Some (Leaf (label.Str n))) (number_in names id v distinct id_in known added)
-
-no_name : ◌≡◌ {A = Bool} false true → ⊥
-no_name e = cc
 
 module _ (names : List (List ℕ)) (id : NameId) (distinct : AreDistinct names) (id_in : id.0 < length names) where
   head_told : (text : List ℕ) (v : Spellings) → text ≡ spelling names id → v.known ≡ names → v.added ≡ [] → ◌≡◌ {A = Option TreeStep} (Some (Open (head.Name (name_in text v)))) (Some (Open (head.Name id)))
@@ -188,7 +181,7 @@ module _ (names : List (List ℕ)) (id : NameId) (distinct : AreDistinct names) 
   abbrev IsHead : FormSymbol → TokenKind → Type 0
   IsHead s k = IsToldAs names s k (spelling names id) (Some (Open (head.Name id)))
 
-  name_told : (s : FormSymbol) (k : TokenKind) → IsTerm s → is_name true k ≡ true → IsHead s k
+  name_told : (s : FormSymbol) (k : TokenKind) → IsTermSymbol s → is_name true k ≡ true → IsHead s k
   name_told _ kind.Identifier put e = record { spelled = tt; told = λ a b v t known added. head_told (spelling_at v.text (lexeme_at kind.Identifier a b)) v t known added; kept = λ a b v t known added. head_kept (spelling_at v.text (lexeme_at kind.Identifier a b)) v t known }
   name_told _ kind.PutWord put e = record { spelled = tt; told = λ a b v t known added. head_told (spelling_at v.text (lexeme_at kind.PutWord a b)) v t known added; kept = λ a b v t known added. head_kept (spelling_at v.text (lexeme_at kind.PutWord a b)) v t known }
   name_told _ kind.AskWord put e = record { spelled = tt; told = λ a b v t known added. head_told (spelling_at v.text (lexeme_at kind.AskWord a b)) v t known added; kept = λ a b v t known added. head_kept (spelling_at v.text (lexeme_at kind.AskWord a b)) v t known }
@@ -215,15 +208,15 @@ module _ (names : List (List ℕ)) (id : NameId) (distinct : AreDistinct names) 
 abbrev IsSign : List (List ℕ) → FormSymbol → TokenKind → List ℕ → Type 0
 IsSign names s k text = IsToldAs names s k text None
 
-open_sign : (names : List (List ℕ)) (s : FormSymbol) → IsTerm s → IsSign names s kind.Open (40 ∷ [])
+open_sign : (names : List (List ℕ)) (s : FormSymbol) → IsTermSymbol s → IsSign names s kind.Open (40 ∷ [])
 open_sign names _ put = record { spelled = tt; told = λ a b v e known added. refl; kept = λ a b v e known added. refl }
 open_sign names _ definition = record { spelled = tt; told = λ a b v e known added. refl; kept = λ a b v e known added. refl }
 
-tuple_told : (names : List (List ℕ)) (s : FormSymbol) → IsTerm s → IsToldAs names s kind.Less (60 ∷ []) (Some (Open head.Tuple))
+tuple_told : (names : List (List ℕ)) (s : FormSymbol) → IsTermSymbol s → IsToldAs names s kind.Less (60 ∷ []) (Some (Open head.Tuple))
 tuple_told names _ put = record { spelled = tt; told = λ a b v e known added. refl; kept = λ a b v e known added. refl }
 tuple_told names _ definition = record { spelled = tt; told = λ a b v e known added. refl; kept = λ a b v e known added. refl }
 
-dot_told : (names : List (List ℕ)) (s : FormSymbol) (first : Side) → IsTerm s → IsToldAs names (dot_symbol s first) kind.Dot (46 ∷ []) (Some (Open head.Dot))
+dot_told : (names : List (List ℕ)) (s : FormSymbol) (first : Side) → IsTermSymbol s → IsToldAs names (dot_symbol s first) kind.Dot (46 ∷ []) (Some (Open head.Dot))
 dot_told names _ first put = record { spelled = tt; told = λ a b v e known added. refl; kept = λ a b v e known added. refl }
 dot_told names _ (variable x) definition = record { spelled = tt; told = λ a b v e known added. refl; kept = λ a b v e known added. refl }
 dot_told names _ (labelled label.Dot sides) definition = record { spelled = tt; told = λ a b v e known added. refl; kept = λ a b v e known added. refl }
@@ -256,7 +249,7 @@ module _ (names : List (List ℕ)) (distinct : AreDistinct names) where
   where_sign = record { spelled = tt; told = λ a b v e known added. refl; kept = λ a b v e known added. refl }
 
   mutual
-    side_told : (s : FormSymbol) (b : Bool) (side : Side) (rest : List TextPart) → IsTerm s → IsWrittenSide names side → AreTold names rest → AreTold names (side_parts names s b side rest)
+    side_told : (s : FormSymbol) (b : Bool) (side : Side) (rest : List TextPart) → IsTermSymbol s → IsWrittenSide names side → AreTold names rest → AreTold names (side_parts names s b side rest)
     side_told s b (variable x) rest is w are = (variable_told names s x is, are)
     side_told s b (labelled (label.Int value) sides) rest is w are = (integer_told names s value is w.0.label, are)
     side_told s b (labelled (label.Str text) sides) rest is w are = (string_told names s text is distinct w.0.label.0 w.0.label.1, are)
@@ -272,7 +265,7 @@ module _ (names : List (List ℕ)) (distinct : AreDistinct names) where
     row_told no_sides rest w are = are
     row_told (next_side side sides) rest w are = (comma_sign, side_told due.PutTerm false side _ put w.0 (row_told sides rest w.1 are))
 
-    dot_sides_told : (s : FormSymbol) (sides : Sides) (rest : List TextPart) → IsTerm s → side_count sides ≡ 2 → AreWrittenSides names sides → AreTold names rest → AreTold names (dot_parts names s sides rest)
+    dot_sides_told : (s : FormSymbol) (sides : Sides) (rest : List TextPart) → IsTermSymbol s → side_count sides ≡ 2 → AreWrittenSides names sides → AreTold names rest → AreTold names (dot_parts names s sides rest)
     dot_sides_told s no_sides rest is two w are = absurd (omega (arith, two))
     dot_sides_told s (next_side first no_sides) rest is two w are = absurd (omega (arith, two))
     dot_sides_told s (next_side first (next_side second sides)) rest is two w are = side_told s true first _ is w.0 (dot_told names s first is, side_told due.PutTerm false second _ put w.1.0 are)

@@ -22,7 +22,7 @@ use Rattle.mars_clauses.specs.declared.limits.InputLimit.TheVariants as limit
 use Rattle.mars_clauses.specs.Limits.{count_event, in_brackets, within, nothing_counted, over_if, with_over}
 use Rattle.mars_graphs.specs.Systems.{Side, variable, labelled, Sides, no_sides, next_side, Equation, EquationSystem}
 use Rattle.mars_back.specs.PartsInside.{TextPart, Token, Blank, Left, sign, dot_symbol, side_parts, dot_parts, row_parts, equation_parts, more_parts, where_parts, system_parts}
-use Rattle.mars_back.proofs.Sides.{IsWrittenSide, AreWrittenSides, side_count, IsWrittenEquation, IsWrittenSystem, no_tuple}
+use Rattle.mars_back.proofs.Sides.{IsWrittenSide, AreWrittenSides, side_count, IsWrittenEquation, IsWrittenSystem, no_tuple, IsTermSymbol, put, definition, no_name}
 
 -- a token with its meaning
 abbrev pub valued_as : TokenKind → ℕ → NameId → ℤ → ValuedToken
@@ -39,17 +39,10 @@ AreQuiet (Left s a ∷ parts) c = AreQuiet parts c
 abbrev pub quiet : ℕ → List ℕ → InputCounts
 quiet arguments outer = record (nothing_counted true) { arguments = arguments; outer = outer }
 
-data IsTerm : FormSymbol → Type 0 where
-  put : IsTerm due.PutTerm
-  definition : IsTerm due.DefinedTerm
-
 -- a token of a term changes at most what is counted in brackets
-term_counts : (s : FormSymbol) (k : TokenKind) (start : ℕ) (name : NameId) (number : ℤ) (a : ℕ) (o : List ℕ) → IsTerm s → count_event (Read s (valued_as k start name number)) (quiet a o) ≡ in_brackets k (quiet a o)
+term_counts : (s : FormSymbol) (k : TokenKind) (start : ℕ) (name : NameId) (number : ℤ) (a : ℕ) (o : List ℕ) → IsTermSymbol s → count_event (Read s (valued_as k start name number)) (quiet a o) ≡ in_brackets k (quiet a o)
 term_counts _ k start name number a o put = refl
 term_counts _ k start name number a o definition = refl
-
-no_name : ◌≡◌ {A = Bool} false true → ⊥
-no_name e = cc
 
 name_counts : (k : TokenKind) (c : InputCounts) → is_name true k ≡ true → in_brackets k c ≡ c
 name_counts kind.Open c e = absurd (no_name e)
@@ -69,7 +62,7 @@ closes n a o parts are = (quiet a o, λ start name number. back n a o, refl, are
 closes_tuple : (n a : ℕ) (o : List ℕ) (parts : List TextPart) → AreQuiet parts (quiet a o) → AreQuiet (sign due.OneGreater kind.Greater 62 ∷ parts) (quiet n (o ++ a ∷ []))
 closes_tuple n a o parts are = (quiet a o, λ start name number. back n a o, refl, are)
 
-dot_counts : (s : FormSymbol) (first : Side) (start : ℕ) (name : NameId) (number : ℤ) (a : ℕ) (o : List ℕ) → IsTerm s → count_event (Read (dot_symbol s first) (valued_as kind.Dot start name number)) (quiet a o) ≡ quiet a o
+dot_counts : (s : FormSymbol) (first : Side) (start : ℕ) (name : NameId) (number : ℤ) (a : ℕ) (o : List ℕ) → IsTermSymbol s → count_event (Read (dot_symbol s first) (valued_as kind.Dot start name number)) (quiet a o) ≡ quiet a o
 dot_counts _ first start name number a o put = refl
 dot_counts _ (variable x) start name number a o definition = refl
 dot_counts _ (labelled label.Dot sides) start name number a o definition = refl
@@ -83,7 +76,7 @@ comma_counts n o start name number less = let few : nat_le ARITY_LIMIT n ≡ fal
 
 module _ (names : List (List ℕ)) where
   mutual
-    side_quiet : (s : FormSymbol) (b : Bool) (side : Side) (rest : List TextPart) (a : ℕ) (o : List ℕ) → IsTerm s → IsWrittenSide names side → AreQuiet rest (quiet a o) → AreQuiet (side_parts names s b side rest) (quiet a o)
+    side_quiet : (s : FormSymbol) (b : Bool) (side : Side) (rest : List TextPart) (a : ℕ) (o : List ℕ) → IsTermSymbol s → IsWrittenSide names side → AreQuiet rest (quiet a o) → AreQuiet (side_parts names s b side rest) (quiet a o)
     side_quiet s b (variable x) rest a o is w are = (quiet a o, λ start name number. term_counts s kind.Placed start name number a o is, refl, are)
     side_quiet s b (labelled (label.Int value) sides) rest a o is w are = (quiet a o, λ start name number. term_counts s kind.Integer start name number a o is, refl, are)
     side_quiet s b (labelled (label.Str text) sides) rest a o is w are = (quiet a o, λ start name number. term_counts s kind.Text start name number a o is, refl, are)
@@ -126,7 +119,7 @@ module _ (names : List (List ℕ)) where
       side_quiet due.PutTerm false side (row_parts names sides rest) (n + 1) o put w.0 (row_quiet sides rest (n + 1) o (omega (arith, few)) w.1 are),
     )
 
-    dot_quiet : (s : FormSymbol) (sides : Sides) (rest : List TextPart) (a : ℕ) (o : List ℕ) → IsTerm s → side_count sides ≡ 2 → AreWrittenSides names sides → AreQuiet rest (quiet a o) → AreQuiet (dot_parts names s sides rest) (quiet a o)
+    dot_quiet : (s : FormSymbol) (sides : Sides) (rest : List TextPart) (a : ℕ) (o : List ℕ) → IsTermSymbol s → side_count sides ≡ 2 → AreWrittenSides names sides → AreQuiet rest (quiet a o) → AreQuiet (dot_parts names s sides rest) (quiet a o)
     dot_quiet s no_sides rest a o is two w are = absurd (omega (arith, two))
     dot_quiet s (next_side first no_sides) rest a o is two w are = absurd (omega (arith, two))
     dot_quiet s (next_side first (next_side second sides)) rest a o is two w are =

@@ -1,6 +1,8 @@
 -- Terms that a text can write.
-use Rattle.std.proofs.Common.{◌≡◌, ℕ, suc, ◌<◌, ◌^◌, List, Some, arith}
+use Rattle.std.proofs.Common.{◌≡◌, ℕ, suc, ◌<◌, ◌^◌, List, Some, arith, Bool, true, false}
 use Rattle.std.specs.List.{AllByRecursion}
+use Rattle.mars_forms.specs.declared.symbol.FormSymbol.{FormSymbol}
+use Rattle.mars_forms.specs.declared.symbol.FormSymbol.TheVariants as due
 use Rattle.mars_tree.specs.declared.label.Label.{Label}
 use Rattle.mars_tree.specs.Label.{arity_of}
 use Rattle.mars_graphs.specs.Systems.{Side, variable, labelled, Sides, no_sides, next_side, Equation, EquationSystem}
@@ -42,3 +44,12 @@ pub record IsWrittenSystem (names : List (List ℕ)) (system : EquationSystem) :
 
 pub no_tuple : (arity : ℕ) → 0 < arity → 0 ≡ arity → ⊥
 no_tuple arity less e = absurd (omega arith)
+
+-- the symbols that take a term
+pub data IsTermSymbol : FormSymbol → Type 0 where
+  put : IsTermSymbol due.PutTerm
+  definition : IsTermSymbol due.DefinedTerm
+
+-- a kind that is no name's
+pub no_name : ◌≡◌ {A = Bool} false true → ⊥
+no_name e = cc
