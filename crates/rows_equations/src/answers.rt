@@ -8,6 +8,7 @@ use crate::world::World;
 use crate::writing::{put, put_number};
 use mars_answer::{Answer, answer};
 use mars_base::NoMemory;
+use mars_canon::Canon;
 use mars_print::{print_roots, print_tree};
 use mars_store::{NodeId, Store};
 use std::alloc::Global;
@@ -93,11 +94,11 @@ pub(crate) fn put_told(tree: &Tree, told: &Answer, into: &mut Vec<u8>) -> Result
 
 /// Writes the inequations that wait.
 pub(crate) fn put_waiting(world: &World, tree: &Tree, into: &mut Vec<u8>) -> Result<(), NoMemory> {
-    let mut asked = Asked::nothing(world.alloc);
-    asked.difs.extend_from_slice(world.difs.waiting())?;
-    if asked.difs.is_empty() {
+    if world.difs.waiting().is_empty() {
         return put(into, "none waits");
     }
+    let mut asked = Asked::nothing(world.alloc);
+    asked.difs.extend_from_slice(world.difs.waiting())?;
     put_answer(world, tree, &asked, into)
 }
 
@@ -108,24 +109,40 @@ pub(crate) fn put_trees(
     asked: &Asked,
     into: &mut Vec<u8>,
 ) -> Result<(), NoMemory> {
-    let Some(told) = told(world, asked)? else {
-        return put(into, "?");
-    };
+    match told(world, asked)? {
+        Some(told) => put_all_trees(tree, &told, into),
+        None => put(into, "?"),
+    }
+}
+
+/// Writes each tree of an answer.
+fn put_all_trees(tree: &Tree, told: &Answer, into: &mut Vec<u8>) -> Result<(), NoMemory> {
     for var in 0..told.vars {
-        let canon = told.tree_of(var)?;
         put(into, if var == 0 { "" } else { " and " })?;
-        if canon.roots().len() == 1 {
-            print_tree(&tree.names, &canon, into)?;
-        }
+        put_canon(tree, &told.tree_of(var)?, into)?;
     }
     Ok(())
 }
 
+/// Writes a tree.
+fn put_canon(tree: &Tree, canon: &Canon, into: &mut Vec<u8>) -> Result<(), NoMemory> {
+    if canon.roots().len() == 1 {
+        print_tree(&tree.names, canon, into)
+    } else {
+        Ok(())
+    }
+}
+
 /// Writes what an answer has, and which of its nodes its roots are.
 pub(crate) fn put_shape(world: &World, asked: &Asked, into: &mut Vec<u8>) -> Result<(), NoMemory> {
-    let Some(told) = told(world, asked)? else {
-        return put(into, "?");
-    };
+    match told(world, asked)? {
+        Some(told) => put_shape_of(&told, into),
+        None => put(into, "?"),
+    }
+}
+
+/// Writes what an answer has.
+fn put_shape_of(told: &Answer, into: &mut Vec<u8>) -> Result<(), NoMemory> {
     put_number(into, "vars ", told.vars)?;
     put_number(into, ", difs ", told.difs)?;
     put_number(into, ", frozen ", told.frozen)?;

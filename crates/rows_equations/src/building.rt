@@ -58,15 +58,33 @@ pub(crate) fn bind_free(store: &mut Store, var: NodeId, to: NodeId) -> Result<bo
     Ok(true)
 }
 
+/// Whether a node was found.
+fn is_found(found: &[bool], node: usize) -> bool {
+    match found.get(node) {
+        Some(found) => *found,
+        None => false,
+    }
+}
+
+/// Whether a node was found and isn't in the store yet.
+fn is_missing(found: &[bool], nodes: &[Option<NodeId>], node: usize) -> bool {
+    is_found(found, node) && matches!(nodes.get(node), Some(None))
+}
+
+/// Notes that some nodes were found.
+fn find_all(nodes: &[usize], found: &mut [bool]) {
+    for node in nodes {
+        if let Some(place) = found.get_mut(*node) {
+            *place = true;
+        }
+    }
+}
+
 /// Finds the kids of all nodes that were found.
-fn spread(graph: &Graph, found: &mut [bool]) {
+pub(crate) fn spread(graph: &Graph, found: &mut [bool]) {
     for node in 0..graph.len() {
-        if found.get(node).copied() == Some(true) {
-            for kid in graph.kids(node) {
-                if let Some(place) = found.get_mut(*kid) {
-                    *place = true;
-                }
-            }
+        if is_found(found, node) {
+            find_all(graph.kids(node), found);
         }
     }
 }
@@ -74,34 +92,33 @@ fn spread(graph: &Graph, found: &mut [bool]) {
 /// Which nodes of a graph some nodes reach. Quadratic at most: rows are short.
 fn reached(alloc: Global, graph: &Graph, roots: &[usize]) -> Result<Vec<bool>, NoMemory> {
     let mut found = vec![in alloc; false; graph.len()]?;
-    for root in roots {
-        if let Some(place) = found.get_mut(*root) {
-            *place = true;
-        }
-    }
+    find_all(roots, &mut found);
     for _ in 0..graph.len() {
         spread(graph, &mut found);
     }
     Ok(found)
 }
 
-/// The nodes of a store for the kids of a node, where each kid has one.
-fn kids_in(
-    alloc: Global,
-    graph: &Graph,
-    node: usize,
+/// Puts the nodes of a store for some nodes last in a list, and says whether each has one.
+fn push_nodes(
+    kids: &[usize],
     nodes: &[Option<NodeId>],
-) -> Result<Option<Vec<NodeId>>, NoMemory> {
-    let mut kids = Vec::new(alloc);
-    if node < graph.len() {
-        for kid in graph.kids(node) {
-            match nodes.get(*kid) {
-                Some(Some(there)) => kids.push(*there)?,
-                _ => return Ok(None),
-            }
+    into: &mut Vec<NodeId>,
+) -> Result<bool, NoMemory> {
+    for kid in kids {
+        match nodes.get(*kid) {
+            Some(Some(there)) => into.push(*there)?,
+            _ => return Ok(false),
         }
     }
-    Ok(Some(kids))
+    Ok(true)
+}
+
+/// Puts the store's node at a node.
+fn put_node(nodes: &mut [Option<NodeId>], node: usize, there: Option<NodeId>) {
+    if let Some(place) = nodes.get_mut(node) {
+        *place = there;
+    }
 }
 
 /// Adds a variable for each free leaf that was found.
@@ -112,10 +129,9 @@ fn add_leaves(
     nodes: &mut [Option<NodeId>],
 ) -> Result<(), NoMemory> {
     for node in 0..graph.len() {
-        if found.get(node).copied() == Some(true) && graph.label(node).is_none() {
-            if let Some(place) = nodes.get_mut(node) {
-                *place = Some(store.add_free()?);
-            }
+        if is_found(found, node) && graph.label(node).is_none() {
+            let var = store.add_free()?;
+            put_node(nodes, node, Some(var));
         }
     }
     Ok(())
@@ -130,11 +146,9 @@ fn add_ready(
     nodes: &mut [Option<NodeId>],
 ) -> Result<(), NoMemory> {
     for node in 0..tree.graph.len() {
-        if found.get(node).copied() == Some(true) && nodes.get(node).copied() == Some(None) {
+        if is_missing(found, nodes, node) {
             let added = add_one(alloc, store, tree, node, nodes)?;
-            if let Some(place) = nodes.get_mut(node) {
-                *place = added;
-            }
+            put_node(nodes, node, added);
         }
     }
     Ok(())
@@ -148,32 +162,43 @@ fn add_one(
     node: usize,
     nodes: &[Option<NodeId>],
 ) -> Result<Option<NodeId>, NoMemory> {
-    let Some(label) = label_at(&tree.graph, node) else {
-        return Ok(None);
-    };
-    match kids_in(alloc, &tree.graph, node, nodes)? {
-        Some(kids) => add_over(store, label, &kids),
+    match label_at(&tree.graph, node) {
+        Some(label) => add_labelled(alloc, store, label, tree.kids(node), nodes),
         None => Ok(None),
     }
 }
 
-/// Adds a variable for each node that was found and is still missing, and gives these nodes.
-fn open_missing(
+/// Adds a node with a label over kids, where these have been added.
+fn add_labelled(
     alloc: Global,
+    store: &mut Store,
+    label: Label,
+    kids: &[usize],
+    nodes: &[Option<NodeId>],
+) -> Result<Option<NodeId>, NoMemory> {
+    let mut there = Vec::new(alloc);
+    if push_nodes(kids, nodes, &mut there)? {
+        add_over(store, label, &there)
+    } else {
+        Ok(None)
+    }
+}
+
+/// Adds a variable for each node that was found and is still missing, and puts these nodes last in a list.
+fn open_missing(
     store: &mut Store,
     found: &[bool],
     nodes: &mut [Option<NodeId>],
-) -> Result<Vec<usize>, NoMemory> {
-    let mut missing = Vec::new(alloc);
+    missing: &mut Vec<usize>,
+) -> Result<(), NoMemory> {
     for node in 0..found.len() {
-        if found.get(node).copied() == Some(true) && nodes.get(node).copied() == Some(None) {
-            if let Some(place) = nodes.get_mut(node) {
-                *place = Some(store.add_free()?);
-            }
+        if is_missing(found, nodes, node) {
+            let var = store.add_free()?;
+            put_node(nodes, node, Some(var));
             missing.push(node)?;
         }
     }
-    Ok(missing)
+    Ok(())
 }
 
 /// Binds the variables of nodes to nodes with their labels over their kids.
@@ -185,14 +210,52 @@ fn close(
     nodes: &[Option<NodeId>],
 ) -> Result<(), NoMemory> {
     for node in missing {
-        if let (Some(Some(var)), Some(made)) = (
-            nodes.get(*node).copied(),
-            add_one(alloc, store, tree, *node, nodes)?,
-        ) {
+        let made = add_one(alloc, store, tree, *node, nodes)?;
+        if let (Some(Some(var)), Some(made)) = (nodes.get(*node).copied(), made) {
             bind_free(store, var, made)?;
         }
     }
     Ok(())
+}
+
+/// Adds the nodes that are on cycles or above these.
+fn add_cycles(
+    alloc: Global,
+    store: &mut Store,
+    tree: &Tree,
+    found: &[bool],
+    nodes: &mut [Option<NodeId>],
+) -> Result<(), NoMemory> {
+    let mut missing = Vec::new(alloc);
+    open_missing(store, found, nodes, &mut missing)?;
+    close(alloc, store, tree, &missing, nodes)
+}
+
+/// Adds the nodes that were found.
+fn add_found(
+    alloc: Global,
+    store: &mut Store,
+    tree: &Tree,
+    found: &[bool],
+    nodes: &mut [Option<NodeId>],
+) -> Result<(), NoMemory> {
+    add_leaves(store, &tree.graph, found, nodes)?;
+    for _ in 0..tree.graph.len() {
+        add_ready(alloc, store, tree, found, nodes)?;
+    }
+    add_cycles(alloc, store, tree, found, nodes)
+}
+
+/// Adds what some nodes of a tree reach to a store, and puts the store's node at each of the tree's.
+fn load_at(
+    alloc: Global,
+    store: &mut Store,
+    tree: &Tree,
+    roots: &[usize],
+    nodes: &mut [Option<NodeId>],
+) -> Result<(), NoMemory> {
+    let found = reached(alloc, &tree.graph, roots)?;
+    add_found(alloc, store, tree, &found, nodes)
 }
 
 /// Adds what some nodes of a tree reach to a store, and gives the store's node for each of the tree's.
@@ -202,13 +265,7 @@ pub(crate) fn load(
     tree: &Tree,
     roots: &[usize],
 ) -> Result<Vec<Option<NodeId>>, NoMemory> {
-    let found = reached(alloc, &tree.graph, roots)?;
     let mut nodes = vec![in alloc; None; tree.graph.len()]?;
-    add_leaves(store, &tree.graph, &found, &mut nodes)?;
-    for _ in 0..tree.graph.len() {
-        add_ready(alloc, store, tree, &found, &mut nodes)?;
-    }
-    let missing = open_missing(alloc, store, &found, &mut nodes)?;
-    close(alloc, store, tree, &missing, &nodes)?;
+    load_at(alloc, store, tree, roots, &mut nodes)?;
     Ok(nodes)
 }

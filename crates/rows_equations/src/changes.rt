@@ -69,15 +69,26 @@ fn leave(
 ) -> Result<(), NoMemory> {
     let mut places = Vec::new(alloc);
     if let Some((_leave, list)) = word.split_once(':') {
-        for place in list.split(',') {
-            places.push(place.parse::<usize>().unwrap_or(usize::MAX))?;
-        }
+        push_places(list, &mut places)?;
     }
-    if !are_ascending(&places, line.now().len()) {
+    leave_at(line, &places, into)
+}
+
+/// Puts the places of a list with commas last in a list.
+fn push_places(list: &str, into: &mut Vec<usize>) -> Result<(), NoMemory> {
+    for place in list.split(',') {
+        into.push(place.parse::<usize>().unwrap_or(usize::MAX))?;
+    }
+    Ok(())
+}
+
+/// Takes out the items at places, where these ascend below the line's length.
+fn leave_at(line: &mut Line<usize>, places: &[usize], into: &mut Vec<u8>) -> Result<(), NoMemory> {
+    if !are_ascending(places, line.now().len()) {
         put_break(into)?;
         return put(into, "?");
     }
-    line.leave(&places)
+    line.leave(places)
 }
 
 /// Whether places ascend below a size.
@@ -104,13 +115,41 @@ const VARIABLES: usize = 4;
 pub(crate) fn put_watchers(alloc: Global, words: &str, into: &mut Vec<u8>) -> Result<(), NoMemory> {
     let mut store = Store::new(alloc);
     let mut vars = Vec::new(alloc);
+    push_variables(&mut store, &mut vars)?;
+    put_changes(alloc, &vars, words, into)
+}
+
+/// Adds variables to a store, and puts them last in a list.
+fn push_variables(store: &mut Store, into: &mut Vec<NodeId>) -> Result<(), NoMemory> {
     for _ in 0..VARIABLES {
-        vars.push(store.add_free()?)?;
+        let var = store.add_free()?;
+        into.push(var)?;
     }
+    Ok(())
+}
+
+/// Runs changes to watchers that wait at some variables.
+fn put_changes(
+    alloc: Global,
+    vars: &[NodeId],
+    words: &str,
+    into: &mut Vec<u8>,
+) -> Result<(), NoMemory> {
     let mut watchers = Watchers::new(alloc);
     let mut woken = Vec::new(alloc);
+    change_by_words(&mut watchers, vars, &mut woken, words, into)
+}
+
+/// Changes watchers word by word.
+fn change_by_words(
+    watchers: &mut Watchers,
+    vars: &[NodeId],
+    woken: &mut Vec<usize>,
+    words: &str,
+    into: &mut Vec<u8>,
+) -> Result<(), NoMemory> {
     for word in words.split_whitespace() {
-        change_watchers(&mut watchers, &vars, &mut woken, word, into)?;
+        change_watchers(watchers, vars, woken, word, into)?;
     }
     Ok(())
 }

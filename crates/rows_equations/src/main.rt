@@ -37,19 +37,46 @@ fn numbers_of(rest: &str) -> (usize, usize) {
 /// The answer of a row, by its first word.
 fn answer(alloc: Global, word: &str, rest: &str, into: &mut Vec<u8>) -> Result<(), Stop> {
     let mut text = Vec::new(alloc);
-    let (first, second) = numbers_of(rest);
-    match word {
-        "solve" => put_script(alloc, &read_tree(alloc, rest)?, &mut text)?,
-        "match" => put_goals(alloc, &read_tree(alloc, rest)?, &mut text)?,
-        "line" => put_line(alloc, rest, &mut text)?,
-        "watchers" => put_watchers(alloc, rest, &mut text)?,
-        "levels" => put_levels(alloc, first, &mut text)?,
-        "lists" => put_lists(alloc, first, &mut text)?,
-        "towers" => put_towers(alloc, first, second, &mut text)?,
-        _ => return Err(Stop::NoRow),
-    }
+    put_answer(alloc, word, rest, &mut text)?;
     into.extend_from_slice(&text)?;
     Ok(())
+}
+
+/// Answers a row in a text of its own, since answers of commands have `; ` between them.
+fn put_answer(alloc: Global, word: &str, rest: &str, into: &mut Vec<u8>) -> Result<(), Stop> {
+    match word {
+        "solve" | "match" => put_of_tree(alloc, word, rest, into),
+        "line" => Ok(put_line(alloc, rest, into)?),
+        "watchers" => Ok(put_watchers(alloc, rest, into)?),
+        _ => put_shape(alloc, word, numbers_of(rest), into),
+    }
+}
+
+/// Answers a row that writes a tree.
+fn put_of_tree(alloc: Global, word: &str, rest: &str, into: &mut Vec<u8>) -> Result<(), Stop> {
+    let tree = read_tree(alloc, rest)?;
+    let told = if word == "solve" {
+        put_script(alloc, &tree, into)
+    } else {
+        put_goals(alloc, &tree, into)
+    };
+    Ok(told?)
+}
+
+/// Answers a row of a large shape.
+fn put_shape(
+    alloc: Global,
+    word: &str,
+    numbers: (usize, usize),
+    into: &mut Vec<u8>,
+) -> Result<(), Stop> {
+    let (first, second) = numbers;
+    match word {
+        "levels" => Ok(put_levels(alloc, first, into)?),
+        "lists" => Ok(put_lists(alloc, first, into)?),
+        "towers" => Ok(put_towers(alloc, first, second, into)?),
+        _ => Err(Stop::NoRow),
+    }
 }
 
 fn main(rt: HostRuntime) -> io::Result<()> {

@@ -16,11 +16,23 @@ pub(crate) struct Tree {
 
 /// The one tree of a text.
 pub(crate) fn read_tree(alloc: Global, text: &str) -> Result<Tree, Stop> {
-    let Operands { mut names, mut all } = read_operands(alloc, text)?;
-    let shown = shown_names(alloc, &mut names)?;
-    let Some(Operand { graph, roots }) = all.pop() else {
-        return Err(Stop::NoTree);
-    };
+    let mut operands = read_operands(alloc, text)?;
+    let shown = shown_names(alloc, &mut operands.names)?;
+    tree_of(operands, shown)
+}
+
+/// The last tree of a row.
+fn tree_of(operands: Operands, shown: Vec<NameId>) -> Result<Tree, Stop> {
+    let Operands { names, mut all } = operands;
+    match all.pop() {
+        Some(operand) => rooted_tree(names, operand, shown),
+        None => Err(Stop::NoTree),
+    }
+}
+
+/// A graph with its first root.
+fn rooted_tree(names: Names, operand: Operand, shown: Vec<NameId>) -> Result<Tree, Stop> {
+    let Operand { graph, roots } = operand;
     match roots.first().copied() {
         Some(root) => Ok(Tree {
             names,
@@ -35,10 +47,17 @@ pub(crate) fn read_tree(alloc: Global, text: &str) -> Result<Tree, Stop> {
 /// Names for the variables of an answer.
 fn shown_names(alloc: Global, names: &mut Names) -> Result<Vec<NameId>, Stop> {
     let mut shown = Vec::new(alloc);
-    for text in ["v1", "v2", "v3", "v4", "v5", "v6", "v7", "v8"] {
-        shown.push(add_name(names, text.as_bytes())?)?;
-    }
+    push_shown(names, &mut shown)?;
     Ok(shown)
+}
+
+/// Puts names for the variables of an answer last in a list.
+fn push_shown(names: &mut Names, into: &mut Vec<NameId>) -> Result<(), Stop> {
+    for text in ["v1", "v2", "v3", "v4", "v5", "v6", "v7", "v8"] {
+        let name = add_name(names, text.as_bytes())?;
+        into.push(name)?;
+    }
+    Ok(())
 }
 
 impl Tree {

@@ -1,10 +1,10 @@
 //! Rows of rules: `goal(GOAL, HEAD, BODY)` matches the head against the goal, builds the body, and goes on with the body
 //! as the next goal.
-ghost use Rattle.std.specs.Prelude.{IfOk, MatchOption};
+ghost use Rattle.std.specs.Prelude.{◌<◌, length, IfOk, MatchOption};
 ghost use Rattle.mars_matching.specs.Trees.{IsTemplate};
 
 use crate::answers::put_told;
-use crate::building::{is_inside, load};
+use crate::building::{is_inside, load, spread};
 use crate::reading::Tree;
 use crate::writing::{put, put_number};
 use mars_answer::answer;
@@ -24,15 +24,7 @@ fn reach_from(graph: &Graph, from: usize, found: &mut [bool]) {
     if let Some(place) = found.get_mut(from) {
         *place = true;
     }
-    for node in 0..graph.len() {
-        if found.get(node).copied() == Some(true) {
-            for kid in graph.kids(node) {
-                if let Some(place) = found.get_mut(*kid) {
-                    *place = true;
-                }
-            }
-        }
-    }
+    spread(graph, found);
 }
 
 /// The nodes of a rule in the order of a template's places, and the place of the head. A written term has one parent,
@@ -80,24 +72,78 @@ fn places_of(alloc: Global, order: &[usize], count: usize) -> Result<Vec<usize>,
     Ok(places)
 }
 
-/// A graph's nodes in an order.
-fn reordered(alloc: Global, graph: &Graph, order: &[usize]) -> Result<Graph, NoMemory> {
-    let places = places_of(alloc, order, graph.len())?;
-    let mut new = Graph::new(alloc);
+/// Adds nodes of a graph in an order, without their kids.
+fn add_in_order(graph: &Graph, order: &[usize], new: &mut Graph) -> Result<(), NoMemory> {
     for node in order {
         match label_at(graph, *node) {
             Some(label) => new.add(label)?,
             None => new.add_free()?,
         };
     }
-    for node in 0..graph.len() {
-        for (at, kid) in graph.kids(node).iter().enumerate() {
-            if let (Some(node), Some(kid)) = (places.get(node), places.get(*kid)) {
-                set_kid_at(&mut new, *node, at, *kid);
-            }
+    Ok(())
+}
+
+/// Gives a node at its new place the kids that it had.
+fn set_kids(kids: &[usize], node: usize, places: &[usize], new: &mut Graph) {
+    for (at, kid) in kids.iter().enumerate() {
+        if let Some(kid) = places.get(*kid) {
+            set_kid_at(new, node, at, *kid);
         }
     }
+}
+
+/// Gives all nodes at their new places the kids that they had.
+fn set_all_kids(graph: &Graph, places: &[usize], new: &mut Graph) {
+    for node in 0..graph.len() {
+        if let Some(place) = places.get(node) {
+            set_kids(graph.kids(node), *place, places, new);
+        }
+    }
+}
+
+/// A graph's nodes in an order.
+fn reordered(alloc: Global, graph: &Graph, order: &[usize]) -> Result<Graph, NoMemory> {
+    let places = places_of(alloc, order, graph.len())?;
+    let mut new = Graph::new(alloc);
+    add_in_order(graph, order, &mut new)?;
+    set_all_kids(graph, &places, &mut new);
     Ok(new)
+}
+
+/// The template whose places are a graph's nodes in an order.
+fn template_in(
+    alloc: Global,
+    graph: &Graph,
+    order: &[usize],
+    vars: usize,
+    head: usize,
+) -> Result<Option<Template>, NoMemory>
+    ensures { IfOk result (λ found. MatchOption found (Unit {0}) (λ rule. IsTemplate rule)) }
+{
+    let nodes = reordered(alloc, graph, order)?;
+    Ok(Template::new(nodes, vars, head))
+}
+
+/// The template of a graph that has the head's nodes and others.
+fn template_with(
+    alloc: Global,
+    graph: &Graph,
+    in_head: &[bool],
+) -> Result<Option<Template>, NoMemory>
+    ensures { IfOk result (λ found. MatchOption found (Unit {0}) (λ rule. IsTemplate rule)) }
+{
+    let mut order = Vec::new(alloc);
+    let (vars, head) = order_of(graph, in_head, &mut order)?;
+    template_in(alloc, graph, &order, vars, head)
+}
+
+/// The template of a graph whose first node is the head.
+fn template_of(alloc: Global, graph: &Graph) -> Result<Option<Template>, NoMemory>
+    ensures { IfOk result (λ found. MatchOption found (Unit {0}) (λ rule. IsTemplate rule)) }
+{
+    let mut in_head = vec![in alloc; false; graph.len()]?;
+    reach_from(graph, 0, &mut in_head);
+    template_with(alloc, graph, &in_head)
 }
 
 /// The template of a head and a body.
@@ -113,40 +159,71 @@ fn template(
         return Ok(None);
     }
     let part = rooted_part(alloc, &tree.graph, &[head, body])?;
-    let mut in_head = vec![in alloc; false; part.graph.len()]?;
-    reach_from(&part.graph, 0, &mut in_head);
-    let mut order = Vec::new(alloc);
-    let (vars, head) = order_of(&part.graph, &in_head, &mut order)?;
-    let nodes = reordered(alloc, &part.graph, &order)?;
-    Ok(Template::new(nodes, vars, head))
+    template_of(alloc, &part.graph)
 }
 
 /// Runs a row: for each goal whether the head matches, and how many nodes were added; and the first goal at the end.
 pub(crate) fn put_goals(alloc: Global, tree: &Tree, into: &mut Vec<u8>) -> Result<(), NoMemory> {
-    let (Some(goal), Some(head), Some(body)) = (
-        tree.kid(tree.root, 0),
-        tree.kid(tree.root, 1),
-        tree.kid(tree.root, 2),
-    ) else {
-        return put(into, "no rule");
-    };
-    let Some(rule) = template(alloc, tree, head, body)? else {
-        return put(into, "no rule");
-    };
+    match tree.kids(tree.root) {
+        [goal, head, body] => match template(alloc, tree, *head, *body)? {
+            Some(rule) => put_goals_of(alloc, tree, *goal, &rule, into),
+            None => put(into, "no rule"),
+        },
+        _ => put(into, "no rule"),
+    }
+}
+
+/// Runs a row whose rule is a template.
+fn put_goals_of(
+    alloc: Global,
+    tree: &Tree,
+    goal: usize,
+    rule: &Template,
+    into: &mut Vec<u8>,
+) -> Result<(), NoMemory>
+    requires { IsTemplate rule.now }
+{
     let mut store = Store::new(alloc);
-    let nodes = load(alloc, &mut store, tree, &[goal])?;
-    let Some(Some(first)) = nodes.get(goal).copied() else {
-        return put(into, "no goal");
-    };
+    match first_goal(alloc, &mut store, tree, goal)? {
+        Some(first) => put_all_goals(alloc, &mut store, tree, rule, first, into),
+        None => put(into, "no goal"),
+    }
+}
+
+/// Adds a goal to a store.
+fn first_goal(
+    alloc: Global,
+    store: &mut Store,
+    tree: &Tree,
+    goal: usize,
+) -> Result<Option<NodeId>, NoMemory> {
+    let nodes = load(alloc, store, tree, &[goal])?;
+    match nodes.get(goal) {
+        Some(first) => Ok(*first),
+        None => Ok(None),
+    }
+}
+
+/// Matches goal after goal, and writes the first one at the end.
+fn put_all_goals(
+    alloc: Global,
+    store: &mut Store,
+    tree: &Tree,
+    rule: &Template,
+    first: NodeId,
+    into: &mut Vec<u8>,
+) -> Result<(), NoMemory>
+    requires { IsTemplate rule.now }
+{
     let mut next = Some(first);
     for _ in 0..MOST_GOALS {
         let Some(goal) = next else {
             break;
         };
-        next = put_goal(alloc, &mut store, &rule, goal, into)?;
+        next = put_goal(alloc, store, rule, goal, into)?;
         put(into, "; ")?;
     }
-    put_end(alloc, &store, tree, first, into)
+    put_end(alloc, store, tree, first, into)
 }
 
 /// Matches one goal, and gives the next one.
@@ -163,17 +240,63 @@ fn put_goal(
         return Ok(None);
     }
     let before = store.mark().nodes;
+    let matched = match_goal(alloc, store, rule, goal)?;
+    let added = store.mark().nodes.saturating_sub(before);
+    match matched {
+        Some(next) => {
+            put_number(into, "yes ", added)?;
+            Ok(next)
+        }
+        None => {
+            put_number(into, "no ", added)?;
+            Ok(None)
+        }
+    }
+}
+
+/// Matches one goal, and gives the next one where it matches.
+fn match_goal(
+    alloc: Global,
+    store: &mut Store,
+    rule: &Template,
+    goal: NodeId,
+) -> Result<Option<Option<NodeId>>, NoMemory>
+    requires template { IsTemplate rule.now }
+    requires goal_in { goal < length store.old.nodes }
+{
     let mut registers = Vec::new(alloc);
     let mut kids = Vec::new(alloc);
-    if !match_head(alloc, store, rule, goal, &mut registers, &mut kids)? {
-        put_number(into, "no ", store.mark().nodes.saturating_sub(before))?;
-        return Ok(None);
+    if match_at(alloc, store, rule, goal, &mut registers, &mut kids)? {
+        Ok(Some(last_of(&registers)))
+    } else {
+        Ok(None)
     }
-    build_body(store, rule, &mut registers, &mut kids)?;
-    put_number(into, "yes ", store.mark().nodes.saturating_sub(before))?;
+}
+
+/// Matches one goal, and builds the body where it matches.
+fn match_at(
+    alloc: Global,
+    store: &mut Store,
+    rule: &Template,
+    goal: NodeId,
+    registers: &mut Vec<Option<NodeId>>,
+    kids: &mut Vec<NodeId>,
+) -> Result<bool, NoMemory>
+    requires template { IsTemplate rule.now }
+    requires goal_in { goal < length store.old.nodes }
+{
+    let matched = match_head(alloc, store, rule, goal, registers, kids)?;
+    if matched {
+        build_body(store, rule, registers, kids)?;
+    }
+    Ok(matched)
+}
+
+/// The node in the last register, which is that of the body.
+fn last_of(registers: &[Option<NodeId>]) -> Option<NodeId> {
     match registers.last() {
-        Some(last) => Ok(*last),
-        None => Ok(None),
+        Some(last) => *last,
+        None => None,
     }
 }
 

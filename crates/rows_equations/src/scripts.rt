@@ -81,30 +81,61 @@ fn command_at(tree: &Tree, node: usize) -> Option<Command> {
     command_of(tree.name(node))
 }
 
-/// The nodes of a row's tree that its commands speak of. A row has fewer commands than nodes.
-fn arguments(alloc: Global, tree: &Tree) -> Result<Vec<usize>, NoMemory> {
-    let mut commands = vec![in alloc; tree.root]?;
-    let mut arguments = Vec::new(alloc);
+/// Puts the kids of a command last in two lists: the commands, and the others.
+fn push_kids(
+    tree: &Tree,
+    command: usize,
+    commands: &mut Vec<usize>,
+    arguments: &mut Vec<usize>,
+) -> Result<(), NoMemory> {
+    for kid in tree.kids(command) {
+        if command_at(tree, *kid).is_some() {
+            commands.push(*kid)?;
+        } else {
+            arguments.push(*kid)?;
+        }
+    }
+    Ok(())
+}
+
+/// Puts the nodes of a row's tree that its commands speak of last in a list. A row has fewer commands than nodes.
+fn push_arguments(
+    tree: &Tree,
+    commands: &mut Vec<usize>,
+    arguments: &mut Vec<usize>,
+) -> Result<(), NoMemory> {
     for place in 0..tree.graph.len() {
         let Some(command) = commands.get(place).copied() else {
             break;
         };
-        for kid in tree.kids(command) {
-            if command_at(tree, *kid).is_some() {
-                commands.push(*kid)?;
-            } else {
-                arguments.push(*kid)?;
-            }
-        }
+        push_kids(tree, command, commands, arguments)?;
     }
+    Ok(())
+}
+
+/// The nodes of a row's tree that its commands speak of.
+fn arguments(alloc: Global, tree: &Tree) -> Result<Vec<usize>, NoMemory> {
+    let mut commands = vec![in alloc; tree.root]?;
+    let mut arguments = Vec::new(alloc);
+    push_arguments(tree, &mut commands, &mut arguments)?;
     Ok(arguments)
 }
 
+/// Adds what a row's commands speak of to a store.
+fn load_arguments(
+    alloc: Global,
+    store: &mut Store,
+    tree: &Tree,
+) -> Result<Vec<Option<NodeId>>, NoMemory> {
+    let arguments = arguments(alloc, tree)?;
+    load(alloc, store, tree, &arguments)
+}
+
 /// A row's tree, and the store's node for each of its nodes that the commands speak of.
-#[derive(Drop)]
+#[derive(Clone, Copy)]
 struct Script<'a> {
     tree: &'a Tree,
-    nodes: Vec<Option<NodeId>>,
+    nodes: &'a [Option<NodeId>],
 }
 
 impl Script<'_> {
@@ -122,11 +153,13 @@ impl Script<'_> {
 
 /// Runs a row, and writes what each of its commands answers.
 pub(crate) fn put_script(alloc: Global, tree: &Tree, into: &mut Vec<u8>) -> Result<(), NoMemory> {
-    let arguments = arguments(alloc, tree)?;
     let mut store = Store::new(alloc);
-    let nodes = load(alloc, &mut store, tree, &arguments)?;
+    let nodes = load_arguments(alloc, &mut store, tree)?;
+    let script = Script {
+        tree,
+        nodes: &nodes,
+    };
     let mut world = World::new(alloc, store);
-    let script = Script { tree, nodes };
     run_all(&mut world, &script, into)
 }
 
@@ -173,8 +206,13 @@ fn run_try(
     let mut inner = Vec::new(world.alloc);
     run_each(world, script, command, &mut inner)?;
     world.undo_to(store, difs);
+    put_braces(&inner, into)
+}
+
+/// Writes a text in braces.
+fn put_braces(text: &[u8], into: &mut Vec<u8>) -> Result<(), NoMemory> {
     put(into, "{")?;
-    into.extend_from_slice(&inner)?;
+    into.extend_from_slice(text)?;
     put(into, "}")
 }
 
@@ -262,17 +300,8 @@ fn tell(
         Command::Waiting => put_waiting(world, script.tree, into),
         Command::Size => put_size(&world.store, into),
         Command::Trail => put_trail(&world.store, into),
-        Command::Show => {
-            let asked = asked_of(world.alloc, script, node)?;
-            put_answer(world, script.tree, &asked, into)
-        }
-        Command::Trees => {
-            let asked = asked_of(world.alloc, script, node)?;
-            put_trees(world, script.tree, &asked, into)
-        }
-        Command::Shape => {
-            let asked = asked_of(world.alloc, script, node)?;
-            put_shape(world, &asked, into)
+        Command::Show | Command::Trees | Command::Shape => {
+            put_asked(world, script, command, node, into)
         }
         _ => match script.argument(node, 0) {
             Some(first) => tell_of(world, script.tree, command, first, into),
@@ -281,21 +310,49 @@ fn tell(
     }
 }
 
-/// What an answer is asked of: what isn't an inequation or a frozen pair is a variable.
-fn asked_of(alloc: Global, script: &Script, command: usize) -> Result<Asked, NoMemory> {
-    let mut asked = Asked::nothing(alloc);
+/// Runs a command that asks for an answer.
+fn put_asked(
+    world: &World,
+    script: &Script,
+    command: Command,
+    node: usize,
+    into: &mut Vec<u8>,
+) -> Result<(), NoMemory> {
+    let mut asked = Asked::nothing(world.alloc);
+    push_asked(script, node, &mut asked)?;
+    match command {
+        Command::Show => put_answer(world, script.tree, &asked, into),
+        Command::Trees => put_trees(world, script.tree, &asked, into),
+        _ => put_shape(world, &asked, into),
+    }
+}
+
+/// Adds all that an answer is asked of.
+fn push_asked(script: &Script, command: usize, asked: &mut Asked) -> Result<(), NoMemory> {
     for (at, kid) in script.tree.kids(command).iter().enumerate() {
-        match (command_at(script.tree, *kid), script.pair(*kid)) {
-            (Some(Command::Differ), Some(pair)) => asked.difs.push(pair)?,
-            (Some(Command::Freeze), Some(pair)) => asked.frozen.push(pair)?,
-            _ => {
-                if let Some(node) = script.argument(command, at) {
-                    asked.vars.push(node)?;
-                }
+        push_asked_of(script, command, at, *kid, asked)?;
+    }
+    Ok(())
+}
+
+/// Adds what an answer is asked of: what isn't an inequation or a frozen pair is a variable.
+fn push_asked_of(
+    script: &Script,
+    command: usize,
+    at: usize,
+    kid: usize,
+    asked: &mut Asked,
+) -> Result<(), NoMemory> {
+    match (command_at(script.tree, kid), script.pair(kid)) {
+        (Some(Command::Differ), Some(pair)) => asked.difs.push(pair)?,
+        (Some(Command::Freeze), Some(pair)) => asked.frozen.push(pair)?,
+        _ => {
+            if let Some(node) = script.argument(command, at) {
+                asked.vars.push(node)?;
             }
         }
     }
-    Ok(asked)
+    Ok(())
 }
 
 /// Writes the bindings, the younger variable's number first.

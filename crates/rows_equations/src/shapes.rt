@@ -88,30 +88,51 @@ pub(crate) fn put_towers(
     into: &mut Vec<u8>,
 ) -> Result<(), NoMemory> {
     let mut store = Store::new(alloc);
+    put_towers_in(alloc, &mut store, one, other, into)
+}
+
+/// Two towers in a store.
+fn put_towers_in(
+    alloc: Global,
+    store: &mut Store,
+    one: usize,
+    other: usize,
+    into: &mut Vec<u8>,
+) -> Result<(), NoMemory> {
     let x = store.add_free()?;
     let y = store.add_free()?;
-    let on_x = add_tower(&mut store, x, one)?;
-    let on_y = add_tower(&mut store, y, other)?;
-    put_equation(alloc, &mut store, x, on_x, into)?;
+    let on_x = add_tower(store, x, one)?;
+    let on_y = add_tower(store, y, other)?;
+    put_equation(alloc, store, x, on_x, into)?;
     put(into, "; ")?;
-    put_equation(alloc, &mut store, y, on_y, into)?;
+    put_equation(alloc, store, y, on_y, into)?;
     put(into, "; ")?;
-    put_equation(alloc, &mut store, x, y, into)
+    put_equation(alloc, store, x, y, into)
 }
 
 /// A long list with itself, with its copy, and with one that differs at its end.
 pub(crate) fn put_lists(alloc: Global, count: usize, into: &mut Vec<u8>) -> Result<(), NoMemory> {
     let mut store = Store::new(alloc);
+    put_lists_in(alloc, &mut store, count, into)
+}
+
+/// Three lists in a store.
+fn put_lists_in(
+    alloc: Global,
+    store: &mut Store,
+    count: usize,
+    into: &mut Vec<u8>,
+) -> Result<(), NoMemory> {
     let aa = store.add(AA, &[])?;
     let bb = store.add(BB, &[])?;
-    let one = add_list(&mut store, aa, bb, count)?;
-    let same = add_list(&mut store, aa, bb, count)?;
-    let other = add_list(&mut store, aa, aa, count)?;
-    put_equation(alloc, &mut store, one, one, into)?;
+    let one = add_list(store, aa, bb, count)?;
+    let same = add_list(store, aa, bb, count)?;
+    let other = add_list(store, aa, aa, count)?;
+    put_equation(alloc, store, one, one, into)?;
     put(into, "; ")?;
-    put_equation(alloc, &mut store, one, same, into)?;
+    put_equation(alloc, store, one, same, into)?;
     put(into, "; ")?;
-    put_equation(alloc, &mut store, one, other, into)
+    put_equation(alloc, store, one, other, into)
 }
 
 /// On each level makes a mark, binds the variable of the level below, and adds one.
@@ -172,16 +193,33 @@ pub(crate) fn put_size(store: &Store, into: &mut Vec<u8>) -> Result<(), NoMemory
 /// Marks on so many levels, each within the one below, and undone from the last one on.
 pub(crate) fn put_levels(alloc: Global, levels: usize, into: &mut Vec<u8>) -> Result<(), NoMemory> {
     let mut store = Store::new(alloc);
+    put_levels_in(alloc, &mut store, levels, into)
+}
+
+/// Levels in a store.
+fn put_levels_in(
+    alloc: Global,
+    store: &mut Store,
+    levels: usize,
+    into: &mut Vec<u8>,
+) -> Result<(), NoMemory> {
+    let free = climb_and_descend(alloc, store, levels, into)?;
+    put_number(into, "; free again ", free)?;
+    put(into, "; ")?;
+    put_size(store, into)
+}
+
+/// Writes how much there is at the top, and gives on how many levels the variable is free again.
+fn climb_and_descend(
+    alloc: Global,
+    store: &mut Store,
+    levels: usize,
+    into: &mut Vec<u8>,
+) -> Result<usize, NoMemory> {
+    let end = store.add(AA, &[])?;
     let mut marks = Vec::new(alloc);
     let mut vars = Vec::new(alloc);
-    let end = store.add(AA, &[])?;
-    climb(&mut store, &mut marks, &mut vars, levels, end)?;
-    put_size(&store, into)?;
-    put_number(
-        into,
-        "; free again ",
-        descend(&mut store, &mut marks, &vars),
-    )?;
-    put(into, "; ")?;
-    put_size(&store, into)
+    climb(store, &mut marks, &mut vars, levels, end)?;
+    put_size(store, into)?;
+    Ok(descend(store, &mut marks, &vars))
 }

@@ -6,18 +6,6 @@ pub undo_to-requires-clause-store : goal.undo_to-requires-clause-store
 undo_to-requires-clause-store c =
     (store-back c.args.world.now.store c.run_each.new.world.store c.mark-store.result c.mark-store.ensures.system c.mark-store.ensures.mark c.run_each.ensures.store).0
 
-pub returns-in_err-put : goal.returns-in_err-put
-returns-in_err-put c =
-    serves-back c.args.world.now.difs c.undo_to.new.self.difs c.args.world.now.store c.undo_to.new.self.store c.requires
-    (c.undo_to.ensures.store ∙ (store-back c.args.world.now.store c.run_each.new.world.store c.mark-store.result c.mark-store.ensures.system c.mark-store.ensures.mark c.run_each.ensures.store).1)
-    (c.undo_to.ensures.difs ∙ (c.run_each.ensures.difs c.mark-difs.result c.mark-difs.ensures.made).1 ∙ c.mark-difs.ensures.back)
-
-pub returns-in_err-extend_from_slice : goal.returns-in_err-extend_from_slice
-returns-in_err-extend_from_slice c =
-    serves-back c.args.world.now.difs c.undo_to.new.self.difs c.args.world.now.store c.undo_to.new.self.store c.requires
-    (c.undo_to.ensures.store ∙ (store-back c.args.world.now.store c.run_each.new.world.store c.mark-store.result c.mark-store.ensures.system c.mark-store.ensures.mark c.run_each.ensures.store).1)
-    (c.undo_to.ensures.difs ∙ (c.run_each.ensures.difs c.mark-difs.result c.mark-difs.ensures.made).1 ∙ c.mark-difs.ensures.back)
-
 pub returns : goal.returns
 returns c =
     serves-back c.args.world.now.difs c.undo_to.new.self.difs c.args.world.now.store c.undo_to.new.self.store c.requires
