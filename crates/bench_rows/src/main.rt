@@ -1,8 +1,8 @@
-//! Measures rows: what adding a tree to no rows takes, adding it again, and finding it, for a list, a comb, a ring and a
-//! random graph.
+//! Measures rows: what adding a tree to no rows takes, adding it again, and finding it, for lists, combs, rings, ladders,
+//! de Bruijn graphs and random graphs.
 //!
-//! Without words it writes how many rows each makes at a small size. With words `SHAPE SIZE`, where SHAPE is `list`,
-//! `comb`, `ring` or `random`, it writes microseconds.
+//! Without words it writes how many rows each makes at a small size. With words `SHAPE SIZE`, where SHAPE is one of those
+//! that `read_task` names, it writes microseconds.
 #![tactic(auto)]
 
 mod measure;
@@ -34,7 +34,15 @@ fn read_words<R: Env + AllocGlobal>(rt: &R) -> io::Result<Option<(Shape, usize)>
 
 /// Writes how many rows each shape makes at a small size.
 fn write_counts<R: Print + AllocGlobal>(rt: &R) -> io::Result<()> {
-    for shape in [Shape::List, Shape::Comb, Shape::Ring] {
+    for shape in [
+        Shape::List,
+        Shape::Comb,
+        Shape::Ring,
+        Shape::Different,
+        Shape::Fibonacci,
+        Shape::DeBruijn,
+        Shape::Ladder,
+    ] {
         let (first, again, found) = counts(rt.alloc(), shape, 500).map_err(no_memory)?;
         println!(rt; "{shape:?}: {first} rows, again {again}, found {found}")?;
     }
@@ -103,6 +111,10 @@ fn read_task(shape: Option<String>, size: Option<String>) -> Option<(Shape, usiz
         "list" => Shape::List,
         "comb" => Shape::Comb,
         "ring" => Shape::Ring,
+        "different" => Shape::Different,
+        "fibonacci" => Shape::Fibonacci,
+        "debruijn" => Shape::DeBruijn,
+        "ladder" => Shape::Ladder,
         "random" => Shape::Random,
         _ => return None,
     };
