@@ -1,7 +1,7 @@
 //! The answer of a row, by its first word.
 use crate::alone::{Stages, history_in_order, tell_stages};
 use crate::closing::Closed;
-use crate::history::counted;
+use crate::history::{Entry, count_of, counted};
 use crate::threads::{Shape, Told, history_of_four, keep_by_two};
 use mars_base::NoMemory;
 use std::alloc::Global;
@@ -19,7 +19,7 @@ pub(crate) fn answer<R: Threads + Wait + Sync>(
     match word {
         "threads" => answer_threads(rt, alloc, rest, into),
         "keep" => answer_keep(rt, alloc, rest, into),
-        "order" => push_list(alloc, history_in_order(rt, alloc, rest)?, into),
+        "order" => answer_order(rt, alloc, rest, into),
         "complete" => push_stages(alloc, tell_stages(rt, alloc)?, into),
         _ => push(into, "no such row"),
     }
@@ -29,6 +29,19 @@ pub(crate) fn answer<R: Threads + Wait + Sync>(
 fn push(into: &mut String, text: &str) -> Result<(), NoMemory> {
     into.push_str(text)?;
     Ok(())
+}
+
+/// `1 2 1`: passes that put items in this order.
+fn answer_order<R: Wait>(
+    rt: &R,
+    alloc: Global,
+    rest: &str,
+    into: &mut String,
+) -> Result<(), NoMemory> {
+    match history_in_order(rt, alloc, rest)? {
+        Some(closed) => push_list(alloc, &closed, into),
+        None => push(into, "not complete"),
+    }
 }
 
 /// `COUNT SHAPE`: four callers in four threads.
@@ -48,7 +61,7 @@ fn answer_threads<R: Threads + Wait + Sync>(
         return push(into, "a number is wanted");
     };
     match history_of_four(rt, alloc, count, shape)? {
-        Some(closed) => push_four(alloc, closed, count, into),
+        Some(closed) => push_four(alloc, &closed, count, into),
         None => push(into, "not complete"),
     }
 }
@@ -64,20 +77,24 @@ fn answer_keep<R: Threads + Wait + Sync>(
         return push(into, "a number is wanted");
     };
     match keep_by_two(rt, alloc, item)? {
-        Some(told) => push_told(alloc, told, into),
+        Some(told) => push_told(alloc, &told, into),
         None => push(into, "not complete"),
     }
 }
 
 /// Appends whether each of four callers has its items, each once and in order, and how many items there are.
-fn push_four(alloc: Global, closed: Closed, count: u64, into: &mut String) -> Result<(), NoMemory> {
-    let Closed { history, by } = closed;
-    let entries = history.entries.as_slice();
+fn push_four(
+    alloc: Global,
+    closed: &Closed,
+    count: u64,
+    into: &mut String,
+) -> Result<(), NoMemory> {
+    let entries = closed.history.entries.as_slice();
     let one = counted(entries, 1) == Some(count);
     let two = counted(entries, 2) == Some(count);
     let three = counted(entries, 3) == Some(count);
     let four = counted(entries, 4) == Some(count);
-    let (all, limit) = (entries.len(), history.limit);
+    let (all, limit, by) = (entries.len(), closed.history.limit, closed.by);
     let text = format!(in alloc;
         "in order {one} {two} {three} {four}, {all} in all, limit {limit}, closed by {by}"
     )?;
@@ -85,12 +102,11 @@ fn push_four(alloc: Global, closed: Closed, count: u64, into: &mut String) -> Re
 }
 
 /// Appends what two callers were told, and how many entries each has.
-fn push_told(alloc: Global, told: Told, into: &mut String) -> Result<(), NoMemory> {
-    let Told { one, two, closed } = told;
-    let entries = closed.history.entries.as_slice();
-    let first = entries.iter().filter(|entry| entry.who == 1).count();
-    let second = entries.iter().filter(|entry| entry.who == 2).count();
-    let (all, by) = (entries.len(), closed.by);
+fn push_told(alloc: Global, told: &Told, into: &mut String) -> Result<(), NoMemory> {
+    let (one, two) = (told.one, told.two);
+    let entries = told.closed.history.entries.as_slice();
+    let (first, second) = (count_of(entries, 1), count_of(entries, 2));
+    let (all, by) = (entries.len(), told.closed.by);
     let text = format!(in alloc;
         "told {one:?} and {two:?}, entries {first} and {second} of {all}, closed by {by}"
     )?;
@@ -98,15 +114,19 @@ fn push_told(alloc: Global, told: Told, into: &mut String) -> Result<(), NoMemor
 }
 
 /// Appends a history.
-fn push_list(alloc: Global, closed: Option<Closed>, into: &mut String) -> Result<(), NoMemory> {
-    let Some(Closed { history, by }) = closed else {
-        return push(into, "not complete");
-    };
-    for entry in &history.entries {
-        let text = format!(in alloc; "{}:{} ", entry.who, entry.item)?;
-        push(into, text.as_str())?;
+fn push_list(alloc: Global, closed: &Closed, into: &mut String) -> Result<(), NoMemory> {
+    for entry in closed.history.entries.as_slice() {
+        push_entry(alloc, *entry, into)?;
     }
-    let text = format!(in alloc; "limit {}, closed by {by}", history.limit)?;
+    let (limit, by) = (closed.history.limit, closed.by);
+    let text = format!(in alloc; "limit {limit}, closed by {by}")?;
+    push(into, text.as_str())
+}
+
+/// Appends an entry.
+fn push_entry(alloc: Global, entry: Entry, into: &mut String) -> Result<(), NoMemory> {
+    let Entry { who, item } = entry;
+    let text = format!(in alloc; "{who}:{item} ")?;
     push(into, text.as_str())
 }
 

@@ -57,16 +57,31 @@ impl History {
 
     /// The place of the first entry with this item, or the number of entries where there is none.
     pub(crate) fn place_of(&self, item: u64) -> usize {
-        let found = self.entries.iter().position(|entry| entry.item == item);
-        found.unwrap_or(self.entries.len())
+        for place in 0..self.entries.len() {
+            if self.entries[place].item == item {
+                return place;
+            }
+        }
+        self.entries.len()
     }
+}
+
+/// How many entries a caller has.
+pub(crate) fn count_of(entries: &[Entry], who: u32) -> usize {
+    let mut count: usize = 0;
+    for entry in entries {
+        if entry.who == who {
+            count = count.saturating_add(1);
+        }
+    }
+    count
 }
 
 /// How many entries a caller has, where their items are 0, 1, 2 and so on.
 pub(crate) fn counted(entries: &[Entry], who: u32) -> Option<u64> {
     let mut next = 0_u64;
     for entry in entries {
-        if History::caller(entry) == who {
+        if entry.who == who {
             if entry.item != next {
                 return None;
             }
