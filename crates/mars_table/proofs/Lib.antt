@@ -1,0 +1,3 @@
+pub mod CallLemmas
+pub mod PinLemmas
+pub mod HistoryLemmas
