@@ -183,3 +183,12 @@ replies_are_determined t (Show h) reply again sound a b = one_shown t h.0 reply 
 replies_are_determined t (Drop h) reply again sound a b = a ∙ sym b
 replies_are_determined t Sweep reply again sound a b = a ∙ sym b
 replies_are_determined t Count reply again sound a b = a ∙ sym b
+
+-- no call changes the limit
+pub limit_after : (t : TableObject) (who : ℕ) (call : Call) → (after_call t who call).limit ≡ t.limit
+limit_after t who (Intern g) = intern_cases t who g (λ new reply. new.limit ≡ t.limit) (λ rows fresh. refl) (λ e. for_limit t who g)
+limit_after t who (Pin h) = refl
+limit_after t who (Show h) = refl
+limit_after t who (Drop h) = refl
+limit_after t who Sweep = refl
+limit_after t who Count = refl

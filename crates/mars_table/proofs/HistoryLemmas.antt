@@ -15,7 +15,7 @@ use Rattle.mars_table.specs.declared.entry.Entry.{Entry}
 use Rattle.mars_table.specs.Calls.{after_call}
 use Rattle.mars_table.specs.History.{AreReplies, after_all, after, entry}
 use Rattle.mars_table.specs.HistoryLaws.{IsPinned, Live, LegalIsLive, LegalIsSound, NextIsBounded}
-use Rattle.mars_table.proofs.CallLemmas.{calls_keep_sound, was_there, stays_same, next_after}
+use Rattle.mars_table.proofs.CallLemmas.{calls_keep_sound, was_there, stays_same, next_after, limit_after}
 
 -- the table after two lists of entries, one after the other
 pub after_both : (t : TableObject) (es fs : List Entry) → after_all t (es ++ fs) ≡ after_all (after_all t es) fs
@@ -99,3 +99,8 @@ next_all t (e ∷ es) are =
 
 pub next_is_bounded : NextIsBounded
 next_is_bounded bound history legal = omega (arith, next_all (empty_table bound) history legal)
+
+-- no call changes the limit
+pub limit_all : (t : TableObject) (es : List Entry) → (after_all t es).limit ≡ t.limit
+limit_all t [] = refl
+limit_all t (e ∷ es) = limit_all (after_call t e.who e.call) es ∙ limit_after t e.who e.call

@@ -18,11 +18,12 @@ use Rattle.mars_table.specs.History.{AreReplies, after_all, after, of, pins_of, 
 use Rattle.mars_table.specs.HistoryLaws.{PinsAreOwn, CallsAreOwn}
 use Rattle.mars_table.proofs.CallLemmas.{intern_cases, for_pins}
 
-nowhere : {A : Type 0} (x : A) → Contains [] x → ⊥
+-- nothing is in an empty list
+pub nowhere : {A : Type 0} (x : A) → Contains [] x → ⊥
 nowhere x c = omega (arith, c.1)
 
 -- the one element of a list
-only : {A : Type 0} (x y : A) → Contains (x ∷ []) y → x ≡ y
+pub only : {A : Type 0} (x y : A) → Contains (x ∷ []) y → x ≡ y
 only x y (k, lt, e) = go k lt e
   where
     go : (k : ℕ) → k < 1 → slice_index_or (x ∷ []) k y ≡ y → x ≡ y

@@ -1,5 +1,5 @@
 -- A table as contracts see it: its limit and its history, which fix its rows and pins.
-use Rattle.std.specs.Prelude.{◌≡◌, ⊤, ⊥, ℕ, List, [], ◌∷◌, ◌++◌}
+use Rattle.std.specs.Prelude.{◌≡◌, ⊤, ℕ, List, [], ◌∷◌, ◌++◌}
 use Rattle.mars_rows.specs.Object.{TableObject}
 use Rattle.mars_table.specs.Calls.{MayCall, IsReply}
 use Rattle.mars_table.specs.History.{after, entry}

@@ -72,6 +72,7 @@ impl Table {
         ensures as_before { OnErr result (self.new ≡ self.old) }
     {
         reserve(&mut self.history, &self.rows, 2)?;
+        let _entries = self.history.len();
         match self.rows.add(&tree)? {
             Added::Root(root) => {
                 // there is room for the pin, so that this can't fail
@@ -204,6 +205,7 @@ impl Table {
 /// Makes room for so many entries beside one for each pin.
 fn reserve(history: &mut Vec<Entry>, rows: &Rows, entries: usize) -> Result<(), NoMemory>
     ensures items { history.new.items ≡ history.old.items }
+    ensures no_less { history.old.cap - history.old.len ≤ history.new.cap - history.new.len }
     ensures room { OnOk result (length rows.now.table.pins + entries ≤ history.new.cap - history.new.len) }
 {
     let (_, pins) = rows.counts();
