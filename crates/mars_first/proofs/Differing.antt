@@ -129,7 +129,7 @@ module _ (s : Places) (stages : List Stage) (classes : List Classes) (links : Li
     abbrev Shown : List ℕ → ℕ → ℕ → Type 0
     Shown = Shows (kids_of_place s) (number_at s) In Link until done
 
-    -- a trace from a node that stands for a candidate ends at that candidate's row
+    -- a trace from the node that a candidate led to ends at that candidate's row
     traced : (a i j node : ℕ) → Trace stages classes (length classes) i j node → (st : Stage) (p : List ℕ) (x : ℕ) → slice_get stages i ≡ Some st → slice_get is.paths i ≡ Some p → slice_get st.nodes.items j ≡ Some x → Shown p a x → number_along s a until ≡ Some (number_at s node)
     traced a i j node (ends m k v t at t_here t_node) st p x st_here p_here x_here shown =
         let same : st ≡ t = same_Some st t (sym st_here ∙ ap (slice_get stages) at ∙ t_here) in

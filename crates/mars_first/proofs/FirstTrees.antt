@@ -30,7 +30,7 @@ use Rattle.mars_comp.proofs.Zips.{zip_get, zip_length, zip_filter}
 data Compared (p q : List ℕ) : Type 0 where
   before : IsBefore p q → Compared p q
   level : p ≡ q → Compared p q
-  behind : IsBefore q p → Compared p q
+  after : IsBefore q p → Compared p q
 
 level_paths : (p q : List ℕ) → length p ≡ length q → IsLess p q ⊎ ((p ≡ q) ⊎ IsLess q p)
 level_paths [] [] e = inr (inl refl)
@@ -54,34 +54,34 @@ compared : (p q : List ℕ) → Compared p q
 compared p q = elim (cases_lt (length p) (length q)) [
   | inl lt ↦ before (inl lt)
   | inr le ↦ elim (cases_lt (length q) (length p)) [
-    | inl lt ↦ behind (inl lt)
+    | inl lt ↦ after (inl lt)
     | inr more ↦
         let size : length p ≡ length q = omega (arith, le, more) in
         elim (level_paths p q size) [
           | inl less ↦ before (inr (size, less))
           | inr rest ↦ elim rest [
             | inl same ↦ level same
-            | inr less ↦ behind (inr (sym size, less))
+            | inr less ↦ after (inr (sym size, less))
           ]
         ]
   ]
 ]
 
--- at each place both lists end, or stand two related elements
+-- at each place both lists end, or both have an element, and the two are related
 data Both (R : ℕ → ℕ → Type 0) (xs ys : List ℕ) (k : ℕ) : Type 0 where
   ended : slice_get xs k ≡ None → slice_get ys k ≡ None → Both R xs ys k
-  stand : (x y : ℕ) → slice_get xs k ≡ Some x → slice_get ys k ≡ Some y → R x y → Both R xs ys k
+  shared : (x y : ℕ) → slice_get xs k ≡ Some x → slice_get ys k ≡ Some y → R x y → Both R xs ys k
 
 zip_both : (R : ℕ → ℕ → Type 0) (xs ys : List ℕ) (k : ℕ) → AllZip R xs ys → Both R xs ys k
 zip_both R [] [] k z = ended refl refl
 zip_both R [] (y ∷ ys) k z = absurd z
 zip_both R (x ∷ xs) [] k z = absurd z
-zip_both R (x ∷ xs) (y ∷ ys) zero z = stand x y refl refl z.0
+zip_both R (x ∷ xs) (y ∷ ys) zero z = shared x y refl refl z.0
 zip_both R (x ∷ xs) (y ∷ ys) (suc k) z = either (zip_both R xs ys k z.1)
   where
     either : Both R xs ys k → Both R (x ∷ xs) (y ∷ ys) (suc k)
     either (ended e f) = ended e f
-    either (stand a b e f r) = stand a b e f r
+    either (shared a b e f r) = shared a b e f r
 
 -- nodes of two components that are the same tree
 record Pair (g h : List Node) (parts others : List ℕ) (n m a b : ℕ) : Type 0 where
@@ -109,7 +109,7 @@ outer_of g parts n i kid member k other = record {
   outer = λ same. false≢true (sym other ∙ eq-eqb (component_of parts i) (component_of parts kid) (member.beside ∙ sym same));
 }
 
--- what passes on both sides of equal items stands at one place
+-- what passes on both sides of equal items is at one place
 filter_both : (p q : ℕ → Bool) (f e : ℕ → ℕ) (xs ys : List ℕ) (k x y : ℕ) → map (λ z. cond (p z) (item.Inner 0) (item.Outer (f z))) xs ≡ map (λ z. cond (q z) (item.Inner 0) (item.Outer (e z))) ys →
     slice_get xs k ≡ Some x → slice_get ys k ≡ Some y → p x ≡ true → (j : ℕ) × (slice_get (filter p xs) j ≡ Some x) × (slice_get (filter q ys) j ≡ Some y)
 filter_both p q f e [] ys k x y same i j pass = absurd cc
@@ -188,7 +188,7 @@ module _ (g h : List Node) (parts others outside numbers : List ℕ) (n m : ℕ)
           row_along g parts outside x (k ∷ path) ≡ row_along h others numbers y (k ∷ path)
       either rows (ended e1 e2) =
           ap (λ (o : Option ℕ). option_map (entry g parts outside []) (option_and_then f o)) e1 ∙ sym (ap (λ (o : Option ℕ). option_map (entry h others numbers []) (option_and_then e o)) e2)
-      either rows (stand a b at to t) =
+      either rows (shared a b at to t) =
           ap (λ (o : Option ℕ). option_map (entry g parts outside []) (option_and_then f o)) at
           ∙ rows a b (record {
             left = member_kid g parts n x a left.graph left.components.size p.left (k, at);
@@ -258,7 +258,7 @@ module _ (g h : List Node) (parts others outside numbers : List ℕ) (n m : ℕ)
         where
           either : (b : ℕ) → Pair g h parts others n m a b → (k : ℕ) → slice_get some k ≡ Some b → Both (Beside nodes) es some k → Contains es a
           either b p k at (ended e1 e2) = absurd cc
-          either b p k at (stand x y e f r) =
+          either b p k at (shared x y e f r) =
               let one : y ≡ b = same_Some y b (sym f ∙ at) in
               let same : Same g x h b = subst (λ (w : ℕ). Same g x h w) one r.0.same in
               let is : x ≡ a = left.apart x a r.0.left.within p.left.within (same_on g h g x b a same (same_turned g h a b p.same)) in
@@ -351,7 +351,7 @@ module _ (g h : List Node) (parts others outside numbers : List ℕ) (n m : ℕ)
       either : Compared s.path t.path → s.path ≡ t.path
       either (level e) = e
       either (before lt) = absurd (differ_beside g h parts others outside numbers n m left right tell nodes beside s.path covers s.differ (t.alike s.path lt))
-      either (behind lt) = absurd (differ_beside h g others parts numbers outside m n right left (tell_turned g h parts others outside numbers n m tell) beside nodes t.path back t.differ (s.alike t.path lt))
+      either (after lt) = absurd (differ_beside h g others parts numbers outside m n right left (tell_turned g h parts others outside numbers n m tell) beside nodes t.path back t.differ (s.alike t.path lt))
 
   rarer : (some most : List ℕ) (s : IsNarrowed g parts outside nodes some) (t : IsNarrowed h others numbers beside most) → s.path ≡ t.path →
       (length some < length most) ⊎ ((length some ≡ length most) × IsAtMost s.row t.row)

@@ -51,11 +51,11 @@ pub up_to_append : (p q s r : List ℕ) → IsUpTo p q → IsBefore (q ++ s) r �
 up_to_append p q s r (inl lt) before = before_trans (p ++ s) (q ++ s) r (before_append p q s lt) before
 up_to_append p q s r (inr same) before = subst (λ (x : List ℕ). IsBefore (x ++ s) r) (sym same) before
 
--- what stands at the end of a path
+-- what is at the end of a path
 abbrev pub seen : (ℕ → List ℕ) → (ℕ → ℕ) → ℕ → List ℕ → Option ℕ
 seen kids row n path = option_map row (walk kids n path)
 
--- the stages before a path are done: one row stands at each, its nodes are joined, and the kids of what is linked are in one stage
+-- the stages before a path are done: each has one row, its nodes are joined, and the kids of what is linked are in one stage
 pub record AreDone (kids : ℕ → List ℕ) (row : ℕ → ℕ) (Stage : List ℕ → ℕ → Type 0) (Link : List ℕ → ℕ → ℕ → Type 0) (until : List ℕ) : Type 0 where
   pub level : (q : List ℕ) (x y : ℕ) → IsBefore q until → Stage q x → Stage q y → row x ≡ row y
   pub joined : (q : List ℕ) (x y : ℕ) → IsBefore q until → Stage q x → Stage q y → Chain Link (λ p. IsUpTo p q) x y

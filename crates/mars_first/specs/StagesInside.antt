@@ -1,4 +1,4 @@
--- Stages: what stands at the ends of paths, one node for each class of nodes that are taken for one.
+-- Stages: the nodes at the ends of paths, one node for each class of nodes that are taken for one.
 use Rattle.std.specs.Prelude.{◌≡◌, ◌≢◌, ◌⊎◌, ℕ, ◌<◌, ◌≤◌, ◌+◌, ◌-◌, ◌*◌, List, [], ◌∷◌, ◌++◌, length, Some, None, slice_get, Contains}
 use Rattle.std.specs.List.{sum_by}
 use Rattle.mars_first.specs.First.{IsBefore}

@@ -196,7 +196,7 @@ fn nodes_of(alloc: Global, order: &Order) -> Result<Vec<usize>, NoMemory>
 /// number for each node of the graph. All nodes of the component are candidates; those with the rarest row at the end of
 /// the first path at which they differ stay, until no path tells two apart. At least half of the candidates go each time,
 /// so it takes at worst the component's nodes and kids times the square of the logarithm of their number. The error is
-/// want of memory alone.
+/// out of memory alone.
 pub fn first(
     alloc: Global,
     graph: &Graph,

@@ -1,4 +1,4 @@
-//! Stages: what stands at the ends of paths, one node for each class of nodes that are taken for one.
+//! Stages: the nodes at the ends of paths, one node for each class of nodes that are taken for one.
 ghost use Rattle.std.specs.Prelude.{◌≡◌, ◌<◌, length, IfOk, OnOk, All, Some, slice_get, slice_index_or};
 ghost use Rattle.std.specs.Bool.{MatchBool};
 ghost use Rattle.mars_first.specs.PlacesInside.{ArePlaces, kids_of_place};

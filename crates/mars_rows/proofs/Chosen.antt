@@ -1,5 +1,5 @@
--- The key that stands for a component: what it tells, and which nodes it has.
-use Rattle.std.proofs.Common.{◌≡◌, ℕ, ◌<◌, List, ◌∙◌, sym, Some, slice_get, Contains}
+-- The key under which the index has a component: what it tells, and which nodes it has.
+use Rattle.std.proofs.Common.{◌≡◌, ℕ, List, ◌∙◌, sym, Some, slice_get, Contains}
 use Rattle.mars_tree.specs.Graph.{Node}
 use Rattle.mars_comp.specs.KeyLaws.{IsParted}
 use Rattle.mars_comp.specs.Least.{IsMember}

@@ -15,7 +15,10 @@ pub mod LookedUp
 pub mod Pinned
 pub mod Placed
 pub mod PutNumbers
+pub mod Rising
 pub mod RowFacts
+pub mod RowGraphs
+pub mod SmallRows
 pub mod StaysSound
 pub mod Stocked
 pub mod Stored

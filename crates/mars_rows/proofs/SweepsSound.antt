@@ -64,7 +64,7 @@ module _ (t : TableObject) (sound : IsSound t) where
   same_row : (h : ℕ) → HasRow (sweep t).rows h → row_at (sweep t).rows h ≡ row_at t.rows h
   same_row h has = (sweep_means t sound.closed sound.pins).1 h has
 
-  was_row : (h : ℕ) → HasRow (sweep t).rows h → HasRow t.rows h
+  pub was_row : (h : ℕ) → HasRow (sweep t).rows h → HasRow t.rows h
   was_row h has = subst (λ (o : Option Row). IsSome o) (same_row h has) has
 
   same_kids : (h : ℕ) → HasRow (sweep t).rows h → kids_of_row (sweep t).rows h ≡ kids_of_row t.rows h
@@ -77,7 +77,7 @@ module _ (t : TableObject) (sound : IsSound t) where
       kept kid (record { pin = m.pin; pinned = m.pinned; path = m.path ++ k ∷ []; meets = walk-push (kids_of_row t.rows) m.pin.1 h kid k m.path m.meets e })
 
   -- the tree of a row that stays
-  same_tree : (h : ℕ) → HasRow (sweep t).rows h → (path : List ℕ) → tree_of (sweep t).rows h path ≡ tree_of t.rows h path
+  pub same_tree : (h : ℕ) → HasRow (sweep t).rows h → (path : List ℕ) → tree_of (sweep t).rows h path ≡ tree_of t.rows h path
   same_tree h has =
       same_from_bisimulation (kids_of_row (sweep t).rows) (shown_at_row (sweep t).rows) (kids_of_row t.rows) (shown_at_row t.rows)
       (λ i j. HasRow (sweep t).rows i × (i ≡ j)) (record {

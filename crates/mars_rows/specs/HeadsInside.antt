@@ -2,7 +2,7 @@
 use Rattle.std.specs.Prelude.{◌≡◌, ℕ, zero, suc, ◌<◌, ◌≤◌, Bool, true, not, nat_eq, List, length, Some, slice_get, slice_index_or}
 use Rattle.mars_comp.specs.Components.{component_of}
 
--- nodes behind their components' numbers, which don't fall
+-- each node with its component's number before it, and these numbers don't fall
 pub record AreByPart (parts : List ℕ) (pairs : List (ℕ × ℕ)) : Type 0 where
   pub are : (k : ℕ) (p : ℕ × ℕ) → slice_get pairs k ≡ Some p → (p.1 < length parts) × (p.0 ≡ component_of parts p.1)
   pub all : (n : ℕ) → n < length parts → (k : ℕ) × (slice_get pairs k ≡ Some (component_of parts n, n))

@@ -34,7 +34,7 @@ number_for numbers n = slice_index_or numbers n 0
 abbrev pub IsNumber : List Row → List Node → ℕ → ℕ → Type 0
 IsNumber rows g n h = HasRow rows h × IsRowOf rows h g n
 
--- the key that stands for the component of a node, and the nodes at its places
+-- the key under which the index has the component of a node, and the nodes at its places
 abbrev pub IsChosen : List Node → List ℕ → List ℕ → ℕ → List ℕ → List Item → Type 0
 IsChosen g parts outside n nodes key = IsFirst g parts outside n nodes key
 

@@ -1,4 +1,4 @@
-// Rows that grow by the nodes of a tree that have none.
+//! Rows that grow by the nodes of a tree that have none.
 ghost use Rattle.std.specs.Prelude.{◌≡◌, ℕ, ◌+◌, ◌^◌, ◌<◌, ◌++◌, length, map, None, List, All, Contains, IfOk, OnOk, OnErr};
 ghost use Rattle.std.specs.List.{range_with_len};
 ghost use Rattle.mars_comp.specs.Components.{AreComponents};

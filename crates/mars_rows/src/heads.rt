@@ -9,7 +9,7 @@ use mars_base::NoMemory;
 use mars_comp::Components;
 use std::alloc::Global;
 
-/// Each node behind its component's number.
+/// Each node with its component's number before it.
 fn numbered(alloc: Global, parts: &Components) -> Result<Vec<(usize, usize)>, NoMemory>
     ensures { IfOk result (λ pairs. pairs.items ≡ map (λ n. (component_of parts.now n, n)) (range_with_len 0 (length parts.now))) }
 {
@@ -20,7 +20,7 @@ fn numbered(alloc: Global, parts: &Components) -> Result<Vec<(usize, usize)>, No
     Ok(pairs)
 }
 
-/// The nodes in the order of their components, each behind its component's number.
+/// The nodes in the order of their components, each with its component's number before it.
 fn in_order(alloc: Global, parts: &Components) -> Result<Vec<(usize, usize)>, NoMemory>
     ensures { IfOk result (λ pairs. AreByPart parts.now pairs.items) }
 {

@@ -1,4 +1,4 @@
-// Laws of the table object.
+//! Laws of the table object.
 ghost use Rattle.mars_rows.specs.Examples.{Examples};
 ghost use Rattle.mars_rows.specs.Lasting.{InternKeepsTrees};
 ghost use Rattle.mars_rows.specs.Met.{InternKeepsMet, SweepKeepsMet};

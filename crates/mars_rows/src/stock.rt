@@ -1,5 +1,5 @@
 //! Rows kept as the nodes of one graph, in the order of their numbers, with a number for each node.
-ghost use Rattle.std.specs.Prelude.{◌≡◌, ℕ, ◌<◌, ◌≤◌, ◌+◌, ◌^◌, ◌++◌, length, map, IfOk, OnOk, OnErr, Contains, All};
+ghost use Rattle.std.specs.Prelude.{◌≡◌, ◌↔◌, ℕ, ◌<◌, ◌≤◌, ◌+◌, ◌^◌, ◌++◌, length, map, IfOk, OnOk, OnErr, IsTrue, Contains, All};
 ghost use Rattle.std.specs.List.{range_with_len};
 ghost use Rattle.mars_rows.specs.FreshInside.{fresh_nodes};
 ghost use Rattle.mars_rows.specs.Object.{fresh_before, fresh_rows, row_number};
@@ -43,6 +43,17 @@ pub(crate) fn place_of(numbers: &[u128], number: u128) -> usize
     match numbers.binary_search(&number) {
         Ok(place) => place,
         Err(_) => unreachable!(),
+    }
+}
+
+/// Whether a number is among numbers that rise.
+pub(crate) fn is_among(numbers: &[u128], number: u128) -> bool
+    requires { NumbersRise numbers.now }
+    ensures { IsTrue result ↔ Contains numbers.now number }
+{
+    match numbers.binary_search(&number) {
+        Ok(_) => true,
+        Err(_) => false,
     }
 }
 

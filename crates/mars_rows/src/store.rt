@@ -1,9 +1,9 @@
 //! Rows with pins: each tree once, under a number that is never given again.
-ghost use Rattle.std.specs.Prelude.{◌≡◌, ℕ, ◌+◌, ◌-◌, ◌≤◌, ◌<◌, ◌^◌, length, not, nat_lt, false, IfOk, OnOk, OnErr, IsOk, Contains};
+ghost use Rattle.std.specs.Prelude.{◌≡◌, ◌↔◌, ℕ, ◌+◌, ◌-◌, ◌≤◌, ◌<◌, ◌^◌, length, not, nat_lt, false, IfOk, OnOk, OnErr, IsOk, IsTrue, Contains};
 ghost use Rattle.mars_canon.specs.Tree.{IsTree};
 ghost use Rattle.std.specs.List.{remove};
 ghost use Rattle.mars_rows.specs.Finding.{find_row};
-ghost use Rattle.mars_rows.specs.Rows.{HasRow};
+ghost use Rattle.mars_rows.specs.Rows.{HasRow, IsRowOf};
 ghost use Rattle.mars_rows.specs.Object.{empty_table, sweep, swept as swept_count};
 ghost use Rattle.mars_rows.specs.RowsObject.{AddsTree, HasRoot, fits, with_pin, without_pin, without_first};
 ghost use Rattle.mars_rows.specs.Sound.{IsSound};
@@ -11,10 +11,10 @@ ghost use Rattle.mars_rows.specs.Sound.{IsSound};
 use crate::growth::{grow, number_nodes};
 use crate::index::find_number;
 use crate::marks::swept;
-use crate::stock::Stock;
+use crate::stock::{Stock, is_among, place_of};
 use indexmap::IndexMap;
 use mars_base::NoMemory;
-use mars_canon::Tree;
+use mars_canon::{Tree, canon};
 use mars_tree::Graph;
 use std::alloc::Global;
 use std::marker::Model;
@@ -82,6 +82,36 @@ impl Rows {
         ensures { result ≡ self.now.table.next }
     {
         self.next
+    }
+
+    /// Whether there is a row of this number. Takes no memory. A logarithm of the rows.
+    pub fn has(&self, id: u128) -> bool
+        ensures { IsTrue result ↔ HasRow self.now.table.rows id }
+    {
+        is_among(&self.stock.numbers, id)
+    }
+
+    /// Whether `who` has a pin on the row of this number. Takes no memory. Linear in the pins.
+    pub fn is_pinned(&self, who: u32, id: u128) -> bool
+        ensures { IsTrue result ↔ Contains self.now.table.pins (who, id) }
+    {
+        has_pin(&self.pins, who, id)
+    }
+
+    /// The tree of a row. It costs what the canonical graph of what the row reaches costs. The error is out of memory
+    /// alone.
+    pub fn graph_of(&self, id: u128) -> Result<Tree, NoMemory>
+        requires { HasRow self.now.table.rows id }
+        ensures tree { IfOk result (λ tree. IsTree tree) }
+        ensures row { IfOk result (λ tree. IsRowOf self.now.table.rows id tree 0) }
+    {
+        let place = place_of(&self.stock.numbers, id);
+        let form = canon(self.alloc, &self.stock.nodes, &[place])?;
+        let _count = form.len();
+        match Tree::of(self.alloc, &form)? {
+            Some(tree) => Ok(tree),
+            None => unreachable!(),
+        }
     }
 
     /// Puts a pin of `who` on a row. With room for a pin it takes no memory.
@@ -192,6 +222,18 @@ fn is_within(rows: usize, fresh: usize, cap: u64) -> bool
     ensures { result ≡ not (nat_lt cap (rows + fresh)) }
 {
     (rows + fresh) as u64 <= cap
+}
+
+/// Whether a caller has a pin on a row.
+fn has_pin(pins: &[(u32, u128)], who: u32, id: u128) -> bool
+    ensures { IsTrue result ↔ Contains pins.now (who, id) }
+{
+    for place in 0..pins.len() {
+        if pins[place].0 == who && pins[place].1 == id {
+            return true;
+        }
+    }
+    false
 }
 
 /// The place of the first pin of a caller on a row.

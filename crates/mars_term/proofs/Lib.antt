@@ -1,2 +1,4 @@
 pub mod RowLemmas
+pub mod HashLemmas
 pub mod PartLemmas
+pub mod SameLemmas

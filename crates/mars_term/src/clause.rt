@@ -17,7 +17,7 @@ pub enum Version {
 }
 
 /// A goal of a rule or an ask: a call, or a cut.
-#[derive(Drop)]
+#[derive(PartialEq, Eq, Hash, Drop)]
 pub enum Goal {
     Call(Term),
     Cut,

@@ -2,7 +2,10 @@
 #![tactic(auto)]
 
 mod clause;
+mod clause_equality;
 mod copying;
+mod equality;
+mod hashing;
 mod laws;
 mod term;
 

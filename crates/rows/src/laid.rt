@@ -16,13 +16,19 @@ pub struct Layout {
 /// The numbers that a text lists.
 pub fn read_numbers(alloc: Global, text: &str) -> Result<Vec<usize>, Stop> {
     let mut numbers = Vec::new(alloc);
+    push_parsed(text, &mut numbers)?;
+    Ok(numbers)
+}
+
+/// Puts the numbers that a text lists last in a list.
+fn push_parsed(text: &str, into: &mut Vec<usize>) -> Result<(), Stop> {
     for word in text.split_whitespace() {
         let Ok(number) = word.parse::<usize>() else {
             return Err(Stop::OtherParts);
         };
-        numbers.push(number)?;
+        into.push(number)?;
     }
-    Ok(numbers)
+    Ok(())
 }
 
 /// The label and the kids that a word writes.
@@ -69,18 +75,31 @@ fn set_kids(graph: &mut Graph, node: usize, kids: &str) {
     }
 }
 
-/// The graph that a text lays out.
-pub fn read_nodes(alloc: Global, text: &str) -> Result<Layout, Stop> {
-    let mut names = Names::new(alloc);
-    let mut graph = Graph::new(alloc);
+/// Adds the nodes that a text lists, without their kids.
+fn add_nodes(text: &str, layout: &mut Layout) -> Result<(), Stop> {
     for word in text.split_whitespace() {
-        add_node(&mut names, &mut graph, word)?;
+        add_node(&mut layout.names, &mut layout.graph, word)?;
     }
+    Ok(())
+}
+
+/// Gives all nodes the kids that a text lists.
+fn set_all_kids(text: &str, graph: &mut Graph) {
     for (node, word) in text.split_whitespace().enumerate() {
         let (_label, kids) = split_node(word);
-        set_kids(&mut graph, node, kids);
+        set_kids(graph, node, kids);
     }
-    Ok(Layout { names, graph })
+}
+
+/// The graph that a text lays out.
+pub fn read_nodes(alloc: Global, text: &str) -> Result<Layout, Stop> {
+    let mut layout = Layout {
+        names: Names::new(alloc),
+        graph: Graph::new(alloc),
+    };
+    add_nodes(text, &mut layout)?;
+    set_all_kids(text, &mut layout.graph);
+    Ok(layout)
 }
 
 /// Writes a number.

@@ -8,9 +8,11 @@ mod graphs;
 mod labels;
 mod laid;
 mod operands;
+mod refusals;
 mod shapes;
 mod stopping;
 mod texts;
+mod unfolding;
 mod verdicts;
 
 pub use answering::answer_rows;
@@ -21,7 +23,9 @@ pub use laid::{
     Layout, push_graph, push_nodes, push_number, push_numbers, push_roots, read_nodes, read_numbers,
 };
 pub use operands::{Operand, Operands, read_operands};
+pub use refusals::push_refusal;
 pub use shapes::{list, ring, tuples};
 pub use stopping::Stop;
 pub use texts::{push_text, push_tree};
+pub use unfolding::unfolded_text;
 pub use verdicts::verdict;

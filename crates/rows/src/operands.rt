@@ -1,12 +1,12 @@
 //! The trees that a row writes, one or more with `|` between them, and the graphs of these. A tree is written as in an
-//! input, with the labels of `labels`; besides, `roots(s, t, ..)` writes a graph with these roots, and `ring(int9, ff, gg)`,
-//! `list(int9, aa, nil)`, `front(int9, aa, nil)` and `tuples(int9, aa)` write large shapes.
+//! input, or with the labels of `labels`; besides, `roots(s, t, ..)` writes a graph with these roots, and
+//! `ring(int9, ff, gg)`, `list(int9, aa, nil)`, `front(int9, aa, nil)` and `tuples(int9, aa)` write large shapes.
 use crate::graphs::{kids_at, label_at, set_kid_at};
 use crate::labels::{label_named, name_at};
 use crate::shapes::{list, ring, tuples};
 use crate::stopping::Stop;
 use mars_base::NoMemory;
-use mars_read::{First, FirstPut, read_first};
+use mars_reader::{ReadError, read_tree};
 use mars_tree::{Graph, Label, Names};
 use std::alloc::Global;
 
@@ -22,18 +22,6 @@ pub struct Operand {
 pub struct Operands {
     pub names: Names,
     pub all: Vec<Operand>,
-}
-
-/// An input that puts each tree of a row.
-fn input_of(alloc: Global, text: &str) -> Result<String, NoMemory> {
-    let mut input = String::from_str(alloc, "rules session aa ")?;
-    for tree in text.split('|') {
-        input.push_str("put tt ")?;
-        input.push_str(tree)?;
-        input.push_str("; ")?;
-    }
-    input.push_str("end")?;
-    Ok(input)
 }
 
 /// The label that a node's label writes.
@@ -53,6 +41,14 @@ fn add_written(names: &Names, label: Option<Label>, made: &mut Graph) -> Result<
     Ok(())
 }
 
+/// Adds the nodes of a graph with the labels that their names write.
+fn add_all_written(names: &Names, graph: &Graph, made: &mut Graph) -> Result<(), NoMemory> {
+    for node in 0..graph.len() {
+        add_written(names, graph.label(node), made)?;
+    }
+    Ok(())
+}
+
 /// Gives a node the kids of the same node of another graph.
 fn copy_kids(graph: &Graph, node: usize, made: &mut Graph) {
     for (place, kid) in kids_at(graph, node).iter().enumerate() {
@@ -63,9 +59,7 @@ fn copy_kids(graph: &Graph, node: usize, made: &mut Graph) {
 /// The same nodes with the labels that their names write.
 fn relabelled(alloc: Global, names: &Names, graph: &Graph) -> Result<Graph, NoMemory> {
     let mut made = Graph::new(alloc);
-    for node in 0..graph.len() {
-        add_written(names, graph.label(node), &mut made)?;
-    }
+    add_all_written(names, graph, &mut made)?;
     for node in 0..graph.len() {
         copy_kids(graph, node, &mut made);
     }
@@ -97,73 +91,85 @@ fn label_for(graph: &Graph, root: usize, place: usize, arity: u32) -> Label {
     }
 }
 
-/// The graph of a shape, where a name at the root writes one.
-fn shape(
-    alloc: Global,
-    shape: &[u8],
-    graph: &Graph,
-    root: usize,
-) -> Result<Option<Operand>, NoMemory> {
-    let size = size_of(graph, root);
-    let (graph, roots) = match shape {
-        b"ring" => {
-            let (first, other) = (label_for(graph, root, 1, 1), label_for(graph, root, 2, 1));
-            (
-                ring(alloc, size as usize, first, other)?,
-                vec![in alloc; 0]?,
-            )
-        }
-        b"list" | b"front" => {
-            let (element, end) = (label_for(graph, root, 1, 0), label_for(graph, root, 2, 0));
-            let made = list(alloc, size as usize, element, end)?;
-            let last = made.len().saturating_sub(1);
-            let roots = if shape == b"list".as_slice() {
-                vec![in alloc; last]?
-            } else {
-                vec![in alloc; 0, 2]?
-            };
-            (made, roots)
-        }
-        b"tuples" => (
-            tuples(alloc, size, label_for(graph, root, 1, 0))?,
-            vec![in alloc; 0, 1]?,
-        ),
-        _ => return Ok(None),
-    };
-    Ok(Some(Operand { graph, roots }))
+/// A graph with some of its nodes as roots.
+fn rooted(alloc: Global, graph: Graph, roots: &[usize]) -> Result<Operand, NoMemory> {
+    let roots = Vec::from_slice(alloc, roots)?;
+    Ok(Operand { graph, roots })
 }
 
-/// The graph of one tree.
-fn operand_of(alloc: Global, names: &Names, put: &FirstPut) -> Result<Operand, NoMemory> {
-    let head = name_at(names, &put.graph, put.root);
-    let graph = relabelled(alloc, names, &put.graph)?;
-    if let Some(made) = shape(alloc, head, &graph, put.root)? {
-        return Ok(made);
+/// The ring that a tree asks for.
+fn ring_of(alloc: Global, graph: &Graph, root: usize) -> Result<Graph, NoMemory> {
+    let (first, other) = (label_for(graph, root, 1, 1), label_for(graph, root, 2, 1));
+    ring(alloc, size_of(graph, root) as usize, first, other)
+}
+
+/// The list that a tree asks for.
+fn list_of(alloc: Global, graph: &Graph, root: usize) -> Result<Graph, NoMemory> {
+    let (element, end) = (label_for(graph, root, 1, 0), label_for(graph, root, 2, 0));
+    list(alloc, size_of(graph, root) as usize, element, end)
+}
+
+/// The list that a tree asks for, with its last node as the root.
+fn whole_list(alloc: Global, graph: &Graph, root: usize) -> Result<Operand, NoMemory> {
+    let made = list_of(alloc, graph, root)?;
+    let last = made.len().saturating_sub(1);
+    rooted(alloc, made, &[last])
+}
+
+/// The graph that a tree is, with the tree's root or, where its name is `roots`, its kids as roots.
+fn plain(alloc: Global, head: &[u8], graph: Graph, root: usize) -> Result<Operand, NoMemory> {
+    if head != b"roots".as_slice() {
+        return rooted(alloc, graph, &[root]);
     }
-    let roots = if head == b"roots".as_slice() {
-        Vec::from_slice(alloc, kids_at(&graph, put.root))?
-    } else {
-        vec![in alloc; put.root]?
-    };
+    let roots = Vec::from_slice(alloc, kids_at(&graph, root))?;
     Ok(Operand { graph, roots })
+}
+
+/// The graph of one tree, or that of the shape that it asks for.
+fn operand_of(alloc: Global, head: &[u8], graph: Graph, root: usize) -> Result<Operand, NoMemory> {
+    match head {
+        b"ring" => rooted(alloc, ring_of(alloc, &graph, root)?, &[0]),
+        b"list" => whole_list(alloc, &graph, root),
+        b"front" => rooted(alloc, list_of(alloc, &graph, root)?, &[0, 2]),
+        b"tuples" => {
+            let leaf = label_for(&graph, root, 1, 0);
+            rooted(alloc, tuples(alloc, size_of(&graph, root), leaf)?, &[0, 1])
+        }
+        _ => plain(alloc, head, graph, root),
+    }
+}
+
+/// Reads one tree: what it says, as a graph with a root.
+fn read_one(alloc: Global, text: &str, names: &mut Names) -> Result<(Graph, usize), Stop> {
+    match read_tree(alloc, text.as_bytes(), names) {
+        Ok(made) => Ok(made),
+        Err(ReadError::NoMemory) => Err(Stop::NoMemory),
+        Err(_) => Err(Stop::Refused),
+    }
+}
+
+/// Reads one tree: the graph that it asks for.
+fn read_operand(alloc: Global, text: &str, names: &mut Names) -> Result<Operand, Stop> {
+    let (graph, root) = read_one(alloc, text, names)?;
+    let made = relabelled(alloc, names, &graph)?;
+    Ok(operand_of(alloc, name_at(names, &graph, root), made, root)?)
+}
+
+/// Reads each tree of a row.
+fn push_operands(alloc: Global, text: &str, into: &mut Operands) -> Result<(), Stop> {
+    for tree in text.split('|') {
+        let operand = read_operand(alloc, tree, &mut into.names)?;
+        into.all.push(operand)?;
+    }
+    Ok(())
 }
 
 /// The graphs of a row's trees; `refused` where the reader refuses one.
 pub fn read_operands(alloc: Global, text: &str) -> Result<Operands, Stop> {
-    let input = input_of(alloc, text)?;
-    let Some(
-        First {
-            names,
-            session: _,
-            puts,
-        },
-    ) = read_first(alloc, input.as_bytes())?
-    else {
-        return Err(Stop::Refused);
+    let mut operands = Operands {
+        names: Names::new(alloc),
+        all: Vec::new(alloc),
     };
-    let mut all = Vec::new(alloc);
-    for put in puts.as_slice() {
-        all.push(operand_of(alloc, &names, put)?)?;
-    }
-    Ok(Operands { names, all })
+    push_operands(alloc, text, &mut operands)?;
+    Ok(operands)
 }

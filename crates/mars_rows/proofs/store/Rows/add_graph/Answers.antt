@@ -4,12 +4,13 @@ use Rattle.mars_rows.specs.Rows.{Row}
 use Rattle.mars_rows.specs.Object.{fresh_before, fresh_rows}
 use Rattle.mars_rows.specs.RowsObject.{RowsObject, fits, Adding, root, add}
 use Rattle.mars_rows.specs.StockInside.{stock_rows, IsStock}
-use Rattle.mars_rows.specs.StoreInside.{table_in}
+use Rattle.mars_rows.specs.StoreInside.{AreSmallRows, table_in}
 use Rattle.mars_rows.specs.TreeGraph.{IsTreeGraph}
 use Rattle.mars_rows.proofs.Holding.{not_more, add_here, pins_kept, counted_fresh, counted_all}
 use Rattle.mars_rows.proofs.Grown.{fresh_within}
 use Rattle.mars_rows.proofs.Holding.{same_index, still_small}
-use Rattle.mars_rows.proofs.Stocked.{length-stock, contains_stock}
+use Rattle.mars_rows.proofs.SmallRows.{same_small, small_grown}
+use Rattle.mars_rows.proofs.Stocked.{length-stock, contains_stock, closed_stock, apart_stock, below_stock}
 use Rattle.mars_rows.proofs.store.Rows.add_graph.Goals as goal
 
 pub invariant_of-self : goal.invariant_of-self
@@ -25,6 +26,7 @@ invariant_of-self c =
       pinned = subst (All (λ (pin : ℕ × ℕ). Contains ns pin.1)) (sym c.in_err-reserve.ensures.items) i.pinned;
       within = i.within;
       fits = i.fits;
+      trees = i.trees;
       small = i.small;
     }
 
@@ -41,6 +43,7 @@ invariant_of-self-in_err-numbered c =
       pinned = subst (All (λ (pin : ℕ × ℕ). Contains ns pin.1)) (sym c.in_ok-reserve.ensures.items) i.pinned;
       within = i.within;
       fits = i.fits;
+      trees = i.trees;
       small = i.small;
     }
 
@@ -59,6 +62,7 @@ invariant_of-self-in_err-root c =
       pinned = subst (λ (xs : List ℕ). All (λ (pin : ℕ × ℕ). Contains xs pin.1) c.reserve.new.self.items) (sym e.numbers_before) (subst (All (λ (pin : ℕ × ℕ). Contains ns pin.1)) (sym c.in_ok-reserve.ensures.items) i.pinned);
       within = omega (arith, ap length e.nodes_before, i.within);
       fits = i.fits;
+      trees = same_small g new.nodes ns new.numbers.items e.nodes_before e.numbers_before i.trees;
       small = i.small;
     }
 
@@ -87,6 +91,7 @@ invariant_of-self-then-is_within c =
       pinned = pins_kept ns new.numbers.items c.reserve.new.self.items e.kept (subst (All (λ (pin : ℕ × ℕ). Contains ns pin.1)) (sym c.in_ok-reserve.ensures.items) i.pinned);
       within = omega (arith, e.count, within, length-stock g ns i.stock);
       fits = i.fits;
+      trees = subst AreSmallRows (sym e.rows) (small_grown (stock_rows g ns) p.next tree (closed_stock g ns i.stock) (apart_stock g ns i.stock) (below_stock g ns i.stock p.next i.below) q i.trees);
       small = still_small p.next c.len-then-is_within.result tree (subst (λ (o : RowsObject). o.table.next < 2 ^ 127) (sym c.self.view_is) c.requires.next) q.few (omega (arith, more, fresh_within (stock_rows g ns) tree (length tree)));
     }
 
@@ -138,6 +143,7 @@ invariant_of-self-else-is_within c =
       pinned = subst (All (λ (pin : ℕ × ℕ). Contains ns pin.1)) (sym c.in_ok-reserve.ensures.items) i.pinned;
       within = i.within;
       fits = i.fits;
+      trees = i.trees;
       small = i.small;
     }
 

@@ -3,12 +3,13 @@ use Rattle.mars_rows.specs.Rows.{Row}
 use Rattle.mars_rows.specs.Object.{fresh_before, fresh_rows, row_number, sweep, is_met}
 use Rattle.mars_rows.specs.RowsObject.{RowsObject, fits, Adding, root, too_many, add}
 use Rattle.mars_rows.specs.StockInside.{stock_rows}
-use Rattle.mars_rows.specs.StoreInside.{table_in}
+use Rattle.mars_rows.specs.StoreInside.{AreSmallRows, table_in}
 use Rattle.mars_rows.specs.TreeGraph.{IsTreeGraph}
-use Rattle.mars_rows.proofs.Holding.{not_more, add_swept, add_full, among_below, pins_kept, counted_fresh}
+use Rattle.mars_rows.proofs.Holding.{not_more, add_swept, add_full, among_below, pins_kept, counted_fresh, sound_stock}
 use Rattle.mars_rows.proofs.Grown.{fresh_within}
 use Rattle.mars_rows.proofs.Holding.{still_small}
-use Rattle.mars_rows.proofs.Stocked.{length-stock, contains_stock}
+use Rattle.mars_rows.proofs.SmallRows.{small_grown, small_swept}
+use Rattle.mars_rows.proofs.Stocked.{length-stock, contains_stock, closed_stock, apart_stock, below_stock}
 use Rattle.mars_rows.proofs.store.Rows.add_to_swept.Goals as goal
 
 pub number_nodes-requires-clause-below : goal.number_nodes-requires-clause-below
@@ -96,6 +97,8 @@ invariant_of-self c =
       pinned = pins_kept ms new.numbers.items p.pins.items e.kept (subst (All (λ (pin : ℕ × ℕ). Contains ms pin.1)) c.deref.ensures.value l.pinned);
       within = omega (arith, e.count, within, size, again, more, fresh_is);
       fits = i.fits;
+      trees = subst AreSmallRows (sym e.rows) (small_grown (stock_rows h ms) p.next tree (closed_stock h ms l.stock) (apart_stock h ms l.stock) (below_stock h ms l.stock p.next (among_below ns ms p.next i.below l.among)) q
+          (subst AreSmallRows (sym rows) (small_swept (table_in p) (sound_stock g ns i.stock p.pins.items p.next p.cap i.below i.pinned i.within) i.trees)));
       small = still_small p.next c.len-3.result tree (subst (λ (o : RowsObject). o.table.next < 2 ^ 127) (sym c.self.view_is) c.requires.next) q.few (omega (arith, more, fresh_within (stock_rows h ms) tree (length tree)));
     }
 

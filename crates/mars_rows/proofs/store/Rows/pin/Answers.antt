@@ -17,6 +17,7 @@ invariant_of-self c =
       pinned = subst (All (λ (pin : ℕ × ℕ). Contains p.stock.numbers.items pin.1)) (sym c.in_err-reserve.ensures.items) i.pinned;
       within = i.within;
       fits = i.fits;
+      trees = i.trees;
       small = i.small;
     }
 
@@ -35,5 +36,6 @@ invariant_of-self-2 c =
           (All-cons (λ (pin : ℕ × ℕ). Contains ns pin.1) (c.args.who, c.args.id) [] (stock_contains p.stock.nodes ns i.stock c.args.id has) (All-nil (λ (pin : ℕ × ℕ). Contains ns pin.1))));
       within = i.within;
       fits = i.fits;
+      trees = i.trees;
       small = i.small;
     }

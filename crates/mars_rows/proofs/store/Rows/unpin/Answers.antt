@@ -21,5 +21,6 @@ invariant_of-self c =
       pinned = subst (All (λ (pin : ℕ × ℕ). Contains p.stock.numbers.items pin.1)) (sym c.remove.ensures.items) (All-remove (λ (pin : ℕ × ℕ). Contains p.stock.numbers.items pin.1) p.pins.items c.pin_place-place.result i.pinned);
       within = i.within;
       fits = i.fits;
+      trees = i.trees;
       small = i.small;
     }

@@ -1,0 +1,6 @@
+//! The law of reading back: what the reader of trees gives for a printed text.
+#![tactic(auto)]
+
+mod laws;
+
+pub use laws::texts_read_back;
