@@ -16,7 +16,7 @@ use Rattle.mars_rows.proofs.Holding.{not_more}
 use Rattle.mars_rows.proofs.Interning.{old_has, old_or_node, intern_means}
 use Rattle.mars_rows.proofs.Pinned.{grown}
 use Rattle.mars_rows.proofs.StaysSound.{grown_sound}
-use Rattle.mars_rows.proofs.SweepsSound.{sweep_sound}
+use Rattle.mars_rows.proofs.SweepsSound.{sweep_sound, same_tree}
 use Rattle.mars_rows.proofs.Swept.{sweep_means}
 use Rattle.mars_table.specs.declared.entry.Call.{Call}
 use Rattle.mars_table.specs.declared.entry.Call.TheVariants.{Intern, Pin, Show, Drop, Sweep, Count}
@@ -28,9 +28,6 @@ use Rattle.mars_table.specs.HistoryLaws.{CallsKeepSound, InternTakesUnmet, Repli
 -- a `Tree` is the canonical graph of its tree
 pub tree_graph : (g : List Node) → IsTree g → IsTreeGraph g
 tree_graph g is = record { graph = is.graph; labels = is.ground; canonical = is.canonical }
-
-same_tree : (t : TableObject) → IsSound t → (h : ℕ) → HasRow (sweep t).rows h → SameRow (sweep t).rows h t.rows h
-same_tree t sound h has = ?
 
 -- a row that a sweep leaves was a row, and is the same tree
 pub swept_old : (t : TableObject) → IsSound t → (h : ℕ) → HasRow (sweep t).rows h → HasRow t.rows h × SameRow (sweep t).rows h t.rows h
@@ -45,8 +42,10 @@ module _ (t : TableObject) (who : ℕ) (g : List Node) where
     where
       u : TableObject
       u = table_for t g
+
       adding : Bool → Adding
       adding b = cond b (root (row_number u.rows u.next g 0) (with_tree u g)) (too_many (length u.rows) (fresh_before u.rows g (length g)))
+
       either : (b : Bool) → (b ≡ true → P (grown u who g) (Kept (record { 0 = row_number u.rows u.next g 0 }))) →
           P (after_adding t who (adding b)) (reply_to_adding t.limit (adding b))
       either true f = f refl
@@ -89,7 +88,7 @@ module _ (t : TableObject) (who : ℕ) (g : List Node) where
           | inl old ↦ old
           | inr w ↦
               let fresh : (table_for t g).next + fresh_before (table_for t g).rows g w.0 ≡ row_number (table_for t g).rows (table_for t g).next g w.0 =
-                  ap (λ o. unwrap_or o ((table_for t g).next + fresh_before (table_for t g).rows g w.0)) (sym w.2) in
+              ap (λ o. unwrap_or o ((table_for t g).next + fresh_before (table_for t g).rows g w.0)) (sym w.2) in
               absurd (omega (arith, lt, for_next, fresh, w.3))
         ]
 

@@ -71,8 +71,8 @@ pub legal_is_live : LegalIsLive
 legal_is_live cap history legal = record {
   numbers = λ before rest a b e pinned_a pinned_b.
       let sound = legal_is_sound cap before (replies_before (empty_table cap) before rest (subst (AreReplies (empty_table cap)) e legal)) in (
-      λ same path. ap (λ h. tree_of (after cap before).rows h path) same,
-      λ same. sound.apart a b (pinned_has (after cap before) a sound pinned_a) (pinned_has (after cap before) b sound pinned_b) same,
+        λ same path. ap (λ h. tree_of (after cap before).rows h path) same,
+        λ same. sound.apart a b (pinned_has (after cap before) a sound pinned_a) (pinned_has (after cap before) b sound pinned_b) same,
       );
   lasts = λ before between rest h e has later.
       let all = subst (AreReplies (empty_table cap)) e legal in

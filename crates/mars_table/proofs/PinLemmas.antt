@@ -117,8 +117,8 @@ pub own_call : (t : TableObject) (who : ℕ) (call : Call) (reply : Reply) → I
 own_call t who (Intern g) reply is =
     subst (λ (r : Reply). pins_of who (after_call t who (Intern g)).pins ≡ held_after (pins_of who t.pins) (Intern g) r) (sym is)
     (intern_cases t who g (λ new r. pins_of who new.pins ≡ held_after (pins_of who t.pins) (Intern g) r) (λ rows fresh. refl)
-      (λ e. own_push who (row_number (table_for t g).rows (table_for t g).next g 0) (table_for t g).pins
-      ∙ ap (λ pins. pins_of who pins ++ row_number (table_for t g).rows (table_for t g).next g 0 ∷ []) (for_pins t who g)))
+    (λ e. own_push who (row_number (table_for t g).rows (table_for t g).next g 0) (table_for t g).pins
+    ∙ ap (λ pins. pins_of who pins ++ row_number (table_for t g).rows (table_for t g).next g 0 ∷ []) (for_pins t who g)))
 own_call t who (Pin h) reply is = subst (λ (r : Reply). pins_of who (t.pins ++ (who, h.0) ∷ []) ≡ held_after (pins_of who t.pins) (Pin h) r) (sym is) (own_push who h.0 t.pins)
 own_call t who (Show h) reply is = refl
 own_call t who (Drop h) reply is = subst (λ (r : Reply). pins_of who (without_first who h.0 t.pins) ≡ held_after (pins_of who t.pins) (Drop h) r) (sym is) (own_without who h.0 t.pins)
@@ -155,11 +155,13 @@ calls_are_own cap history who call legal = by call
   where
     own : pins_of who (after cap history).pins ≡ held (of history who)
     own = pins_are_own cap history who legal
+
     of_pin : (h : ℕ) → Contains (after cap history).pins (who, h) ↔ Contains (held (of history who)) h
     of_pin h = (
       λ c. subst (λ (pins : List ℕ). Contains pins h) own (own_pin who h (after cap history).pins c),
       λ c. pin_of who h (after cap history).pins (subst (λ (pins : List ℕ). Contains pins h) (sym own) c),
     )
+
     by : (call : Call) → MayCall (after cap history) who call ↔ OwnsFor (of history who) call
     by (Intern g) = (λ is. is, λ is. is)
     by (Pin h) = of_pin h.0

@@ -20,13 +20,13 @@ IsPinned t h = (who : ℕ) × Contains t.pins (who, h)
 pub record Live (cap : ℕ) (history : List Entry) : Type 0 where
   -- two pinned numbers are one exactly where their trees are
   pub numbers : (before rest : List Entry) (a b : ℕ) → history ≡ before ++ rest → IsPinned (after cap before) a → IsPinned (after cap before) b →
-    (a ≡ b) ↔ SameRow (after cap before).rows a (after cap before).rows b
+      (a ≡ b) ↔ SameRow (after cap before).rows a (after cap before).rows b
   -- a row is the same tree in every later table that has it
   pub lasts : (before between rest : List Entry) (h : ℕ) → history ≡ before ++ (between ++ rest) → HasRow (after cap before).rows h →
-    HasRow (after cap (before ++ between)).rows h → SameRow (after cap (before ++ between)).rows h (after cap before).rows h
+      HasRow (after cap (before ++ between)).rows h → SameRow (after cap (before ++ between)).rows h (after cap before).rows h
   -- a sweep leaves exactly the rows that a walk from a pin meets
   pub sweeps : (before rest : List Entry) (who h : ℕ) (reply : Reply) → history ≡ before ++ entry who Sweep reply ∷ rest →
-    HasRow (after cap (before ++ entry who Sweep reply ∷ [])).rows h ↔ IsMet (after cap before) h
+      HasRow (after cap (before ++ entry who Sweep reply ∷ [])).rows h ↔ IsMet (after cap before) h
 
 -- a legal history is live
 abbrev pub LegalIsLive : Type 0

@@ -1,7 +1,6 @@
 //! The table: rows of trees and the pins of callers on them, with the history of all calls.
 ghost use Rattle.std.specs.Prelude.{◌≡◌, ◌<◌, ◌≤◌, ◌^◌, ◌-◌, ◌+◌, length, IfOk, OnOk, OnErr, IsOk};
 ghost use Rattle.mars_canon.specs.Tree.{IsTree};
-ghost use Rattle.mars_rows.specs.Rows.{HasRow, IsRowOf};
 ghost use Rattle.mars_rows.specs.Sound.{IsSound};
 ghost use Rattle.mars_table.specs.declared.entry.Call.TheVariants.{Intern, Pin, Show, Drop, Sweep, Count};
 ghost use Rattle.mars_table.specs.Calls.{MayCall};
@@ -119,7 +118,7 @@ impl Table {
         ensures as_before { OnErr result (self.new ≡ self.old) }
     {
         reserve(&mut self.history, &self.rows, 1)?;
-        let tree = graph_of_row(&self.rows, handle)?;
+        let tree = self.rows.graph_of(handle.0)?;
         let again = tree.copy()?;
         self.history.push_reserved(Entry {
             who,
@@ -211,12 +210,4 @@ fn reserve(history: &mut Vec<Entry>, rows: &Rows, entries: usize) -> Result<(), 
     let (_, pins) = rows.counts();
     history.reserve((pins as usize).checked_add(entries).ok_or(NoMemory)?)?;
     Ok(())
-}
-
-/// The tree of a row.
-fn graph_of_row(rows: &Rows, handle: Handle) -> Result<Tree, NoMemory>
-    requires { HasRow rows.now.table.rows handle.0 }
-    ensures { IfOk result (λ tree. IsTree tree × IsRowOf rows.now.table.rows handle.0 tree 0) }
-{
-    loop {}
 }

@@ -25,8 +25,14 @@ invariant_of-self-in-Root c =
     kept_push c.self.inside (record { rows = c.pin.new.self; history = c.push_reserved.new.self; cap = c.self.inside.cap }) e c.self.invariant c.requires kept.1 refl
     (c.in_ok-pin-in-Root.ensures.pinned ∙ sym kept.0)
     (c.push_reserved.ensures.items ∙ ap (λ xs. xs ++ e ∷ []) c.in_ok-reserve.ensures.items)
-    (omega (arith, c.in_ok-reserve.ensures.room, c.push_reserved.ensures.len, c.push_reserved.ensures.capacity,
-        ap (λ (t : TableObject). length t.pins) (c.in_ok-pin-in-Root.ensures.pinned ∙ sym kept.0), pins_after c.self.inside.rows.table c.args.who c.args.tree))
+    (omega (
+      arith,
+      c.in_ok-reserve.ensures.room,
+      c.push_reserved.ensures.len,
+      c.push_reserved.ensures.capacity,
+      ap (λ (t : TableObject). length t.pins) (c.in_ok-pin-in-Root.ensures.pinned ∙ sym kept.0),
+      pins_after c.self.inside.rows.table c.args.who c.args.tree,
+    ))
 
 pub invariant_of-self-in-Full : goal.invariant_of-self-in-Full
 invariant_of-self-in-Full c =
