@@ -48,3 +48,9 @@ pub record AreKnownAlike (system : System) (roots : List ℕ) (another : System)
   pub labels : (walk : ℕ × List ℕ) (label : Label) → IsForcedAlong system roots walk label ↔ IsForcedAlong another others walk label
   pub there : (walk : ℕ × List ℕ) → IsThereAlong system roots walk ↔ IsThereAlong another others walk
   pub implied : (walk other : ℕ × List ℕ) → AreImpliedAlong system roots walk other ↔ AreImpliedAlong another others walk other
+
+-- each solution of one system has the trees at some nodes that a solution of another has at some of its nodes, both ways
+pub record HaveAlikeTrees (system : System) (roots : List ℕ) (another : System) (others : List ℕ) : Type 0 where
+  pub count : length roots ≡ length others
+  pub forth : (v : Valuation) → InSol system v → (w : Valuation) × InSol another w × ((walk : ℕ × List ℕ) → walk_value w others walk ≡ walk_value v roots walk)
+  pub back : (w : Valuation) → InSol another w → (v : Valuation) × InSol system v × ((walk : ℕ × List ℕ) → walk_value v roots walk ≡ walk_value w others walk)

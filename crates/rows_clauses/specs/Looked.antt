@@ -1,4 +1,4 @@
--- A build over tokens that stand in a list: what is told is told of the token at that place.
+-- A build over the tokens of a list: what is told is told of the token at that place.
 use Rattle.std.specs.Prelude.{ℕ, List, Option, Some, None, pos, slice_get}
 use Rattle.mars_grammar.specs.FormTable.{Event, Read, Say}
 use Rattle.mars_grammar.specs.Building.{Build}

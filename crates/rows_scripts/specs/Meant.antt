@@ -1,4 +1,4 @@
--- A build over tokens whose meanings stand in a list: what is told is told of the meaning at that place.
+-- A build over tokens whose meanings are in a list: what is told is told of the meaning at that place.
 use Rattle.std.specs.Prelude.{ℕ, List, Option, Some, None, pos, slice_get}
 use Rattle.mars_grammar.specs.FormTable.{Event, Read, Say}
 use Rattle.mars_grammar.specs.Building.{Build}
