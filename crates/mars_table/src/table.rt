@@ -1,6 +1,7 @@
 //! The table: rows of trees and the pins of callers on them, with the history of all calls.
 ghost use Rattle.std.specs.Prelude.{◌≡◌, ◌<◌, ◌≤◌, ◌^◌, ◌-◌, ◌+◌, length, IfOk, OnOk, OnErr, IsOk};
 ghost use Rattle.mars_canon.specs.Tree.{IsTree};
+ghost use Rattle.mars_rows.specs.Object.{intern, Interned};
 ghost use Rattle.mars_rows.specs.Sound.{IsSound};
 ghost use Rattle.mars_table.specs.declared.entry.Call.TheVariants.{Intern, Pin, Show, Drop, Sweep, Count};
 ghost use Rattle.mars_table.specs.Calls.{MayCall};
@@ -55,7 +56,7 @@ impl Table {
         ensures as_before { OnErr result (self.new ≡ self.old) }
     {
         match call {
-            Call::Intern(tree) => self.intern(who, tree),
+            Call::Intern(tree) => self.keep(who, tree),
             Call::Pin(handle) => self.pin(who, handle),
             Call::Show(handle) => self.show(who, handle),
             Call::Drop(handle) => Ok(self.unpin(who, handle)),
@@ -64,8 +65,26 @@ impl Table {
         }
     }
 
+    /// Keeps a tree that fits, with a pin of `who` on it: a call of `Intern`, whose reply is never `Full` where there is
+    /// room for all nodes of the tree. `NoMemory` changes nothing.
+    pub fn intern(&mut self, who: u32, tree: Tree) -> Result<Handle, NoMemory>
+        requires { length (object_of self.old).rows + length tree ≤ (object_of self.old).limit }
+        ensures kept { IfOk result
+            (λ handle. intern (object_of self.old) who tree ≡ Interned.kept handle.0 (object_of self.new)) }
+        ensures limit { OnOk result ((object_of self.new).limit ≡ (object_of self.old).limit) }
+        ensures small { OnOk result (length (object_of self.new).rows ≤ length (object_of self.old).rows + length tree) }
+        ensures as_before { OnErr result (self.new ≡ self.old) }
+    {
+        let _count = tree.len();
+        let _counts = self.counts();
+        match self.keep(who, tree)? {
+            Reply::Kept(handle) => Ok(handle),
+            _ => unreachable!(),
+        }
+    }
+
     /// Keeps a tree, with a pin of the caller on it.
-    fn intern(&mut self, who: u32, tree: Tree) -> Result<Reply, NoMemory>
+    fn keep(&mut self, who: u32, tree: Tree) -> Result<Reply, NoMemory>
         requires { IsTree tree }
         ensures applied { IfOk result (λ reply. Applied self.old who (Intern tree) reply self.new) }
         ensures as_before { OnErr result (self.new ≡ self.old) }
