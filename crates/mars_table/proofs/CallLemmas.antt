@@ -1,13 +1,12 @@
 -- What each call makes of a sound table.
-use Rattle.std.proofs.Common.{◌≡◌, ℕ, ◌<◌, ◌≤◌, ◌+◌, ◌&&◌, Bool, true, false, cond, nat_eq, List, [], ◌∷◌, ◌++◌, length, Option, None, unwrap_or, IsSome, refl, sym, subst, ap, ◌∙◌, arith, inl, inr, All, Contains}
+use Rattle.std.proofs.Common.{◌≡◌, ℕ, ◌<◌, ◌≤◌, ◌+◌, ◌&&◌, Bool, true, false, cond, nat_eq, List, [], ◌∷◌, length, Option, unwrap_or, IsSome, refl, sym, subst, ap, ◌∙◌, arith, inl, inr, All}
 use Rattle.std.proofs.lemmas.List.Elements.{All-append, All-cons, All-nil, All-head, All-tail, All-contains}
 use Rattle.mars_tree.specs.Graph.{Node, at}
 use Rattle.mars_tree.proofs.CallerLemmas.{one_from_same_roots}
 use Rattle.mars_canon.specs.Tree.{IsTree, most_nodes}
-use Rattle.mars_rows.specs.Rows.{Row, HasRow, IsRowOf, SameRow, tree_of}
-use Rattle.mars_rows.specs.Finding.{find_row}
-use Rattle.mars_rows.specs.Object.{TableObject, fresh_before, fresh_rows, row_number, sweep}
-use Rattle.mars_rows.specs.RowsObject.{fits, table_for, with_tree, with_pin, without_pin, without_first, add, Adding}
+use Rattle.mars_rows.specs.Rows.{Row, HasRow, SameRow}
+use Rattle.mars_rows.specs.Object.{TableObject, fresh_before, row_number, sweep}
+use Rattle.mars_rows.specs.RowsObject.{fits, table_for, with_tree, without_first, add, Adding}
 use Rattle.mars_rows.specs.RowsObject.Adding.{root, too_many}
 use Rattle.mars_rows.specs.Sound.{IsSound, IsMet}
 use Rattle.mars_rows.specs.TreeGraph.{IsTreeGraph}
@@ -21,8 +20,8 @@ use Rattle.mars_rows.proofs.Swept.{sweep_means}
 use Rattle.mars_table.specs.declared.entry.Call.{Call}
 use Rattle.mars_table.specs.declared.entry.Call.TheVariants.{Intern, Pin, Show, Drop, Sweep, Count}
 use Rattle.mars_table.specs.declared.entry.Reply.{Reply}
-use Rattle.mars_table.specs.declared.entry.Reply.TheVariants.{Kept, Full, Pinned, Shown, Dropped, Swept, Counted}
-use Rattle.mars_table.specs.Calls.{MayCall, after_call, after_adding, reply_to_adding, IsShown, IsReply}
+use Rattle.mars_table.specs.declared.entry.Reply.TheVariants.{Kept, Full, Shown}
+use Rattle.mars_table.specs.Calls.{MayCall, after_call, after_adding, reply_to_adding, IsShown}
 use Rattle.mars_table.specs.HistoryLaws.{CallsKeepSound, InternTakesUnmet, RepliesAreDetermined}
 
 -- a `Tree` is the canonical graph of its tree

@@ -1,20 +1,18 @@
 -- What legal histories mean.
-use Rattle.std.proofs.Common.{◌≡◌, ◌↔◌, nat_eq, ℕ, ◌<◌, ◌≤◌, ◌+◌, ◌*◌, suc, List, [], ◌∷◌, ◌++◌, length, refl, sym, subst, ap, ◌∙◌, arith, All, Contains}
+use Rattle.std.proofs.Common.{◌≡◌, ◌↔◌, nat_eq, ℕ, ◌<◌, ◌≤◌, ◌+◌, ◌*◌, List, [], ◌∷◌, ◌++◌, length, refl, sym, subst, ap, ◌∙◌, arith}
 use Rattle.std.proofs.lemmas.List.Elements.{All-contains}
 use Rattle.mars_canon.specs.Tree.{most_nodes}
 use Rattle.mars_rows.specs.Rows.{Row, row_at, HasRow, SameRow, tree_of}
-use Rattle.mars_rows.specs.Object.{TableObject, empty_table, sweep}
+use Rattle.mars_rows.specs.Object.{TableObject, empty_table}
 use Rattle.mars_rows.specs.Sound.{IsSound, IsMet}
 use Rattle.mars_rows.proofs.CallerLemmas.{sound_empty}
 use Rattle.mars_rows.proofs.RowFacts.{All-find, number_at, some_of}
 use Rattle.mars_rows.proofs.Swept.{sweep_means}
-use Rattle.mars_table.specs.declared.entry.Call.{Call}
-use Rattle.mars_table.specs.declared.entry.Call.TheVariants.{Intern, Sweep}
-use Rattle.mars_table.specs.declared.entry.Reply.{Reply}
+use Rattle.mars_table.specs.declared.entry.Call.TheVariants.{Sweep}
 use Rattle.mars_table.specs.declared.entry.Entry.{Entry}
 use Rattle.mars_table.specs.Calls.{after_call}
-use Rattle.mars_table.specs.History.{AreReplies, after_all, after, entry}
-use Rattle.mars_table.specs.HistoryLaws.{IsPinned, Live, LegalIsLive, LegalIsSound, NextIsBounded}
+use Rattle.mars_table.specs.History.{AreReplies, after_all, after_history, call_entry}
+use Rattle.mars_table.specs.HistoryLaws.{IsPinned, LegalIsLive, LegalIsSound, NextIsBounded}
 use Rattle.mars_table.proofs.CallLemmas.{calls_keep_sound, was_there, stays_same, next_after, limit_after}
 
 -- the table after two lists of entries, one after the other
@@ -71,21 +69,21 @@ pub legal_is_live : LegalIsLive
 legal_is_live cap history legal = record {
   numbers = λ before rest a b e pinned_a pinned_b.
       let sound = legal_is_sound cap before (replies_before (empty_table cap) before rest (subst (AreReplies (empty_table cap)) e legal)) in (
-        λ same path. ap (λ h. tree_of (after cap before).rows h path) same,
-        λ same. sound.apart a b (pinned_has (after cap before) a sound pinned_a) (pinned_has (after cap before) b sound pinned_b) same,
+        λ same path. ap (λ h. tree_of (after_history cap before).rows h path) same,
+        λ same. sound.apart a b (pinned_has (after_history cap before) a sound pinned_a) (pinned_has (after_history cap before) b sound pinned_b) same,
       );
   lasts = λ before between rest h e has later.
       let all = subst (AreReplies (empty_table cap)) e legal in
       let sound = legal_is_sound cap before (replies_before (empty_table cap) before (between ++ rest) all) in
-      let are = replies_before (after cap before) between rest (replies_after (empty_table cap) before (between ++ rest) all) in
+      let are = replies_before (after_history cap before) between rest (replies_after (empty_table cap) before (between ++ rest) all) in
       let both = after_both (empty_table cap) before between in
-      subst (λ (t : TableObject). SameRow t.rows h (after cap before).rows h) (sym both)
-      (same_all (after cap before) between h sound are (below_next (after cap before) h sound has) (subst (λ (t : TableObject). HasRow t.rows h) both later));
+      subst (λ (t : TableObject). SameRow t.rows h (after_history cap before).rows h) (sym both)
+      (same_all (after_history cap before) between h sound are (below_next (after_history cap before) h sound has) (subst (λ (t : TableObject). HasRow t.rows h) both later));
   sweeps = λ before rest who h reply e.
       let all = subst (AreReplies (empty_table cap)) e legal in
-      let sound = legal_is_sound cap before (replies_before (empty_table cap) before (entry who Sweep reply ∷ rest) all) in
-      let both = after_both (empty_table cap) before (entry who Sweep reply ∷ []) in
-      subst (λ (t : TableObject). HasRow t.rows h ↔ IsMet (after cap before) h) (sym both) ((sweep_means (after cap before) sound.closed sound.pins).0 h);
+      let sound = legal_is_sound cap before (replies_before (empty_table cap) before (call_entry who Sweep reply ∷ rest) all) in
+      let both = after_both (empty_table cap) before (call_entry who Sweep reply ∷ []) in
+      subst (λ (t : TableObject). HasRow t.rows h ↔ IsMet (after_history cap before) h) (sym both) ((sweep_means (after_history cap before) sound.closed sound.pins).0 h);
 }
 
 -- numbers are counted up by at most the nodes of a tree a call

@@ -1,5 +1,5 @@
 -- A table stays what its history says.
-use Rattle.std.proofs.Common.{◌≡◌, ◌⊎◌, ℕ, suc, ◌<◌, ◌≤◌, ◌+◌, ◌-◌, ◌*◌, ◌^◌, ◌&&◌, nat_eq, Bool, true, false, cond, List, [], ◌∷◌, ◌++◌, length, refl, sym, subst, ap, ◌∙◌, arith, inl, inr, All, Contains, length-append}
+use Rattle.std.proofs.Common.{◌≡◌, ◌⊎◌, ℕ, suc, ◌<◌, ◌≤◌, ◌+◌, ◌-◌, ◌^◌, ◌&&◌, nat_eq, Bool, true, false, cond, List, [], ◌∷◌, ◌++◌, length, refl, sym, subst, ap, ◌∙◌, arith, inl, inr, Contains, length-append}
 use Rattle.std.specs.Global.{Vec}
 use Rattle.std.proofs.lemmas.Bool.{false≢true}
 use Rattle.std.proofs.lemmas.Bool.Decides.{nat_tests}
@@ -22,7 +22,7 @@ use Rattle.mars_table.specs.declared.entry.Call.TheVariants.{Intern}
 use Rattle.mars_table.specs.declared.entry.Reply.{Reply}
 use Rattle.mars_table.specs.declared.entry.Reply.TheVariants.{Kept, Full}
 use Rattle.mars_table.specs.Calls.{MayCall, after_call, after_adding, reply_to_adding, IsReply}
-use Rattle.mars_table.specs.History.{AreReplies, Legal, after_all, after, entry}
+use Rattle.mars_table.specs.History.{AreReplies, Legal, after_all, after_history, call_entry}
 use Rattle.mars_table.specs.TableInside.{IsKept, seen_of}
 use Rattle.mars_table.specs.TableSeen.{TableSeen, object_of, with_entry, Applied}
 use Rattle.mars_table.proofs.CallLemmas.{tree_graph, intern_cases, for_pins, limit_after}
@@ -34,14 +34,14 @@ all_push t [] e are may is = (may, is, tt)
 all_push t (x ∷ es) e are may is = (are.0, are.1, all_push (after_call t x.who x.call) es e are.2 may is)
 
 -- a legal history goes on with a call that may be made and the table's reply
-pub legal_push : (cap : ℕ) (history : List Entry) (e : Entry) → Legal cap history → MayCall (after cap history) e.who e.call → IsReply (after cap history) e.call e.reply → Legal cap (history ++ e ∷ [])
+pub legal_push : (cap : ℕ) (history : List Entry) (e : Entry) → Legal cap history → MayCall (after_history cap history) e.who e.call → IsReply (after_history cap history) e.call e.reply → Legal cap (history ++ e ∷ [])
 legal_push limit history e legal may is = all_push (empty_table limit) history e legal may is
 
 -- only the room for entries changed
 pub kept_same : (p : Inside) (log : Vec Entry) → IsKept p → log.items ≡ p.history.items → length p.rows.table.pins ≤ log.cap - log.len → IsKept (record { rows = p.rows; history = log; cap = p.cap })
 kept_same p log is same room = record {
   legal = subst (Legal p.cap) (sym same) is.legal;
-  rows = is.rows ∙ ap (after p.cap) (sym same);
+  rows = is.rows ∙ ap (after_history p.cap) (sym same);
   room = room;
 }
 
@@ -53,7 +53,7 @@ kept_push p q e is may reply limit rows items room =
     let reply' = subst (λ (t : TableObject). IsReply t e.call e.reply) is.rows reply in
     record {
       legal = subst (λ (k : ℕ). Legal k q.history.items) (sym limit) (subst (Legal p.cap) (sym items) (legal_push p.cap p.history.items e is.legal may' reply'));
-      rows = rows ∙ ap (λ t. after_call t e.who e.call) is.rows ∙ sym (after_both (empty_table p.cap) p.history.items (e ∷ [])) ∙ ap (after p.cap) (sym items) ∙ ap (λ k. after k q.history.items) (sym limit);
+      rows = rows ∙ ap (λ t. after_call t e.who e.call) is.rows ∙ sym (after_both (empty_table p.cap) p.history.items (e ∷ [])) ∙ ap (after_history p.cap) (sym items) ∙ ap (λ k. after_history k q.history.items) (sym limit);
       room = room;
     }
 
@@ -147,7 +147,7 @@ interns_here t who g reply sound is room replied =
 
 -- rows and pins after a call that was made
 pub object_after : (old new : TableSeen) (who : ℕ) (call : Call) (reply : Reply) → Applied old who call reply new → object_of new ≡ after_call (object_of old) who call
-object_after old new who call reply is = ap object_of is.is_new ∙ after_both (empty_table old.cap) old.history (entry who call reply ∷ [])
+object_after old new who call reply is = ap object_of is.is_new ∙ after_both (empty_table old.cap) old.history (call_entry who call reply ∷ [])
 
 -- what interning a tree that fits makes of a table
 pub record Fitted (old new : TableSeen) (who : ℕ) (g : List Node) (h : Handle) : Type 0 where

@@ -4,17 +4,14 @@ use Rattle.std.proofs.lemmas.Bool.{false≢true}
 use Rattle.std.proofs.lemmas.Bool.Decides.{nat_tests}
 use Rattle.std.proofs.lemmas.List.{map-append, append-nil}
 use Rattle.std.proofs.lemmas.List.Elements.{Contains-append_left, Contains-append_right, Contains-append_cases, Contains-push, filter-append}
-use Rattle.mars_tree.specs.Graph.{Node}
 use Rattle.mars_rows.specs.Object.{TableObject, empty_table, row_number}
-use Rattle.mars_rows.specs.RowsObject.{table_for, without_first, add}
-use Rattle.mars_rows.proofs.Pinned.{grown}
+use Rattle.mars_rows.specs.RowsObject.{table_for, without_first}
 use Rattle.mars_table.specs.declared.entry.Call.{Call}
 use Rattle.mars_table.specs.declared.entry.Call.TheVariants.{Intern, Pin, Show, Drop, Sweep, Count}
 use Rattle.mars_table.specs.declared.entry.Reply.{Reply}
-use Rattle.mars_table.specs.declared.entry.Reply.TheVariants.{Kept, Full, Pinned, Shown, Dropped, Swept, Counted}
 use Rattle.mars_table.specs.declared.entry.Entry.{Entry}
-use Rattle.mars_table.specs.Calls.{MayCall, after_call, reply_to_adding, IsShown, IsReply}
-use Rattle.mars_table.specs.History.{AreReplies, after_all, after, of, pins_of, held_after, held_from, held, without_number, OwnsFor}
+use Rattle.mars_table.specs.Calls.{MayCall, after_call, IsReply}
+use Rattle.mars_table.specs.History.{AreReplies, after_all, after_history, of, pins_of, held_after, held_from, held, without_number, OwnsFor}
 use Rattle.mars_table.specs.HistoryLaws.{PinsAreOwn, CallsAreOwn}
 use Rattle.mars_table.proofs.CallLemmas.{intern_cases, for_pins}
 
@@ -153,16 +150,16 @@ pins_are_own cap history who legal = pins_from who (empty_table cap) history leg
 pub calls_are_own : CallsAreOwn
 calls_are_own cap history who call legal = by call
   where
-    own : pins_of who (after cap history).pins ≡ held (of history who)
+    own : pins_of who (after_history cap history).pins ≡ held (of history who)
     own = pins_are_own cap history who legal
 
-    of_pin : (h : ℕ) → Contains (after cap history).pins (who, h) ↔ Contains (held (of history who)) h
+    of_pin : (h : ℕ) → Contains (after_history cap history).pins (who, h) ↔ Contains (held (of history who)) h
     of_pin h = (
-      λ c. subst (λ (pins : List ℕ). Contains pins h) own (own_pin who h (after cap history).pins c),
-      λ c. pin_of who h (after cap history).pins (subst (λ (pins : List ℕ). Contains pins h) (sym own) c),
+      λ c. subst (λ (pins : List ℕ). Contains pins h) own (own_pin who h (after_history cap history).pins c),
+      λ c. pin_of who h (after_history cap history).pins (subst (λ (pins : List ℕ). Contains pins h) (sym own) c),
     )
 
-    by : (call : Call) → MayCall (after cap history) who call ↔ OwnsFor (of history who) call
+    by : (call : Call) → MayCall (after_history cap history) who call ↔ OwnsFor (of history who) call
     by (Intern g) = (λ is. is, λ is. is)
     by (Pin h) = of_pin h.0
     by (Show h) = of_pin h.0

@@ -6,7 +6,6 @@ use Rattle.mars_rows.specs.Rows.{IsRowOf}
 use Rattle.mars_rows.specs.Object.{TableObject, sweep, swept}
 use Rattle.mars_rows.specs.RowsObject.{Adding, add, with_pin, without_pin}
 use Rattle.mars_rows.specs.RowsObject.Adding.{root, too_many}
-use Rattle.mars_table.specs.declared.entry.Handle.{Handle}
 use Rattle.mars_table.specs.declared.entry.Call.{Call}
 use Rattle.mars_table.specs.declared.entry.Call.TheVariants.{Intern, Pin, Show, Drop, Sweep, Count}
 use Rattle.mars_table.specs.declared.entry.Reply.{Reply}

@@ -1,17 +1,17 @@
 -- Histories of the table: legal ones, the table after one, and the entries of one caller.
-use Rattle.std.specs.Prelude.{◌≡◌, ⊤, ℕ, Bool, nat_eq, if◌then◌else◌, List, [], ◌∷◌, ◌++◌, map, filter, Contains}
+use Rattle.std.specs.Prelude.{⊤, ℕ, nat_eq, if◌then◌else◌, List, [], ◌∷◌, ◌++◌, map, filter, Contains}
 use Rattle.mars_canon.specs.Tree.{IsTree}
 use Rattle.mars_rows.specs.Object.{TableObject, empty_table}
 use Rattle.mars_table.specs.Calls.{MayCall, after_call, IsReply}
 use Rattle.mars_table.specs.declared.entry.Call.{Call}
 use Rattle.mars_table.specs.declared.entry.Call.TheVariants.{Intern, Pin, Show, Drop, Sweep, Count}
 use Rattle.mars_table.specs.declared.entry.Reply.{Reply}
-use Rattle.mars_table.specs.declared.entry.Reply.TheVariants.{Kept, Full, Pinned, Shown, Dropped, Swept, Counted}
+use Rattle.mars_table.specs.declared.entry.Reply.TheVariants.{Kept, Pinned, Dropped}
 use Rattle.mars_table.specs.declared.entry.Entry.{Entry}
 
 -- a call of `who` with its reply
-abbrev pub entry : ℕ → Call → Reply → Entry
-entry who call reply = record { who = who; call = call; reply = reply }
+abbrev pub call_entry : ℕ → Call → Reply → Entry
+call_entry who call reply = record { who = who; call = call; reply = reply }
 
 -- the table after one call after the other
 abbrev pub after_all : TableObject → List Entry → TableObject
@@ -28,8 +28,8 @@ abbrev pub Legal : ℕ → List Entry → Type 0
 Legal cap history = AreReplies (empty_table cap) history
 
 -- the table after a history
-abbrev pub after : ℕ → List Entry → TableObject
-after cap history = after_all (empty_table cap) history
+abbrev pub after_history : ℕ → List Entry → TableObject
+after_history cap history = after_all (empty_table cap) history
 
 -- the entries of one caller, in order
 abbrev pub of : List Entry → ℕ → List Entry

@@ -3,8 +3,8 @@ ghost use Rattle.std.specs.Prelude.{◌≡◌, ℕ, List, Bool, true, [], ◌∷
 ghost use Rattle.std.proofs.Common.{◌∙◌};
 ghost use Rattle.mars_table.specs.declared.entry.Entry.{Entry};
 ghost use Rattle.mars_table.specs.Door.{SeesMore};
-ghost use Rattle.mars_table.specs.History.{Legal, OwnsFor, entry, of};
-ghost use Rattle.mars_table.specs.TableSeen.{unused};
+ghost use Rattle.mars_table.specs.History.{Legal, OwnsFor, call_entry, of};
+ghost use Rattle.mars_table.specs.TableSeen.{uncalled};
 
 use crate::entry::{Call, Reply};
 use crate::table::Table;
@@ -42,8 +42,8 @@ pub trait Door {
         ensures who { who self.new ≡ who self.old }
         ensures cap { cap self.new ≡ cap self.old }
         ensures lone { lone self.new ≡ lone self.old }
-        ensures mine { IfOk result (λ reply. mine self.new ≡ mine self.old ++ entry (who self.old) call reply ∷ []) }
-        ensures seen { IfOk result (λ reply. SeesMore (lone self.old) (seen self.old) (seen self.new) (entry (who self.old) call reply)) }
+        ensures mine { IfOk result (λ reply. mine self.new ≡ mine self.old ++ call_entry (who self.old) call reply ∷ []) }
+        ensures seen { IfOk result (λ reply. SeesMore (lone self.old) (seen self.old) (seen self.new) (call_entry (who self.old) call reply)) }
         ensures legal { Legal (cap self.new) (seen self.new) }
         ensures own { of (seen self.new) (who self.new) ≡ mine self.new }
         ensures as_before { OnErr result ((mine self.new ≡ mine self.old) × (seen self.new ≡ seen self.old)) };
@@ -110,7 +110,7 @@ pub struct FullDoor {
 impl FullDoor {
     /// An empty table of limit 0 for a caller. Takes no memory.
     pub fn new(alloc: Global, who: u32) -> FullDoor
-        ensures table { result.table ≡ unused 0 }
+        ensures table { result.table ≡ uncalled 0 }
         ensures who { result.caller ≡ who }
     {
         FullDoor {

@@ -7,7 +7,7 @@ ghost use Rattle.mars_table.specs.declared.entry.Call.TheVariants.{Intern, Pin, 
 ghost use Rattle.mars_table.specs.Calls.{MayCall};
 ghost use Rattle.mars_table.specs.History.{Legal};
 ghost use Rattle.mars_table.specs.HistoryLaws.{Live};
-ghost use Rattle.mars_table.specs.TableSeen.{TableSeen, unused, object_of, Applied, IsDrop};
+ghost use Rattle.mars_table.specs.TableSeen.{TableSeen, uncalled, object_of, Applied, IsDrop};
 
 use crate::entry::{Call, Entry, Handle, Reply};
 use mars_base::NoMemory;
@@ -39,7 +39,7 @@ impl Model for Table {
 impl Table {
     /// An empty table of at most `cap` rows.
     pub fn new(alloc: Global, cap: u64) -> Table
-        ensures { result ≡ unused cap }
+        ensures { result ≡ uncalled cap }
     {
         Table {
             rows: Rows::new(alloc, cap),

@@ -1,8 +1,7 @@
-use Rattle.std.proofs.Common.{refl, arith, sym, subst, ap, ◌∙◌, ◌++◌, ◌∷◌, [], length}
+use Rattle.std.proofs.Common.{refl, arith, ap, ◌∙◌, ◌++◌, ◌∷◌, [], length}
 use Rattle.mars_table.specs.declared.entry.Entry.{Entry}
 use Rattle.mars_table.specs.declared.entry.Call.TheVariants.{Count}
 use Rattle.mars_table.specs.declared.entry.Reply.TheVariants.{Counted}
-use Rattle.mars_table.specs.TableInside.{IsKept}
 use Rattle.mars_table.proofs.KeptLemmas.{kept_same, kept_push}
 use Rattle.mars_table.proofs.table.Table.count.Goals as goal
 

@@ -1,9 +1,8 @@
 use Rattle.std.proofs.Common.{subst}
 use Rattle.mars_table.specs.declared.entry.Call.TheVariants.{Intern}
 use Rattle.mars_table.specs.declared.entry.Reply.{Reply}
-use Rattle.mars_table.specs.declared.entry.Reply.TheVariants.{Kept}
 use Rattle.mars_table.specs.TableSeen.{object_of, Applied}
-use Rattle.mars_table.proofs.KeptLemmas.{interns_here, Fitted, fitted}
+use Rattle.mars_table.proofs.KeptLemmas.{interns_here, fitted}
 use Rattle.mars_table.proofs.table.Table.intern.Goals as goal
 
 pub unreachable-requires : goal.unreachable-requires
@@ -14,14 +13,14 @@ unreachable-requires c =
 pub returns-clause-kept : goal.returns-clause-kept
 returns-clause-kept c =
     (fitted c.args.self.now c.keep.new.self c.args.who c.args.tree c.in-Kept.handle c.counts-counts.ensures.sound c.len-count.ensures.tree c.requires
-        (subst (λ (r : Reply). Applied c.args.self.now c.args.who (Intern c.args.tree) r c.keep.new.self) c.in-Kept.is c.in_ok-handle.ensures.applied)).interned
+    (subst (λ (r : Reply). Applied c.args.self.now c.args.who (Intern c.args.tree) r c.keep.new.self) c.in-Kept.is c.in_ok-handle.ensures.applied)).interned
 
 pub returns-clause-limit : goal.returns-clause-limit
 returns-clause-limit c =
     (fitted c.args.self.now c.keep.new.self c.args.who c.args.tree c.in-Kept.handle c.counts-counts.ensures.sound c.len-count.ensures.tree c.requires
-        (subst (λ (r : Reply). Applied c.args.self.now c.args.who (Intern c.args.tree) r c.keep.new.self) c.in-Kept.is c.in_ok-handle.ensures.applied)).limit
+    (subst (λ (r : Reply). Applied c.args.self.now c.args.who (Intern c.args.tree) r c.keep.new.self) c.in-Kept.is c.in_ok-handle.ensures.applied)).limit
 
 pub returns-clause-small : goal.returns-clause-small
 returns-clause-small c =
     (fitted c.args.self.now c.keep.new.self c.args.who c.args.tree c.in-Kept.handle c.counts-counts.ensures.sound c.len-count.ensures.tree c.requires
-        (subst (λ (r : Reply). Applied c.args.self.now c.args.who (Intern c.args.tree) r c.keep.new.self) c.in-Kept.is c.in_ok-handle.ensures.applied)).small
+    (subst (λ (r : Reply). Applied c.args.self.now c.args.who (Intern c.args.tree) r c.keep.new.self) c.in-Kept.is c.in_ok-handle.ensures.applied)).small

@@ -5,7 +5,6 @@ use Rattle.mars_rows.specs.RowsObject.{AddsTree}
 use Rattle.mars_table.specs.declared.entry.Entry.{Entry}
 use Rattle.mars_table.specs.declared.entry.Call.TheVariants.{Intern}
 use Rattle.mars_table.specs.declared.entry.Reply.TheVariants.{Kept, Full}
-use Rattle.mars_table.specs.TableInside.{IsKept}
 use Rattle.mars_table.proofs.KeptLemmas.{kept_same, kept_push, kept_tree, full_tree, kept_limit, next_small, pins_after, applied}
 use Rattle.mars_table.proofs.table.Table.keep.Goals as goal
 

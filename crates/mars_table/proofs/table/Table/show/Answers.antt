@@ -1,10 +1,9 @@
-use Rattle.std.proofs.Common.{refl, arith, sym, subst, ap, ◌∙◌, ◌++◌, ◌∷◌, [], length}
+use Rattle.std.proofs.Common.{refl, arith, ap, ◌∙◌, ◌++◌, ◌∷◌, []}
 use Rattle.mars_table.specs.declared.entry.Entry.{Entry}
 use Rattle.mars_table.specs.declared.entry.Call.TheVariants.{Show}
 use Rattle.mars_table.specs.declared.entry.Reply.TheVariants.{Shown}
 use Rattle.mars_table.specs.Calls.{IsShown}
-use Rattle.mars_table.specs.TableInside.{IsKept}
-use Rattle.mars_table.proofs.KeptLemmas.{kept_same, kept_push, now_pinned, pinned_row, applied}
+use Rattle.mars_table.proofs.KeptLemmas.{kept_same, kept_push, now_pinned, pinned_row}
 use Rattle.mars_table.proofs.table.Table.show.Goals as goal
 
 pub invariant_of-self : goal.invariant_of-self

@@ -1,9 +1,8 @@
-use Rattle.std.proofs.Common.{refl, arith, sym, subst, ap, ◌∙◌, ◌++◌, ◌∷◌, [], length}
+use Rattle.std.proofs.Common.{refl, arith, ap, length}
 use Rattle.mars_rows.specs.Object.{TableObject}
 use Rattle.mars_table.specs.declared.entry.Entry.{Entry}
 use Rattle.mars_table.specs.declared.entry.Call.TheVariants.{Drop}
 use Rattle.mars_table.specs.declared.entry.Reply.TheVariants.{Dropped}
-use Rattle.mars_table.specs.TableInside.{IsKept}
 use Rattle.mars_table.proofs.KeptLemmas.{kept_push, now_pinned, fewer_pins}
 use Rattle.mars_table.proofs.table.Table.unpin.Goals as goal
 
