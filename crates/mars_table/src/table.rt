@@ -1,32 +1,37 @@
-// The table: rows of trees, and the pins of callers on them.
-ghost use Rattle.std.specs.Prelude.{◌≡◌, ◌+◌, ◌≤◌, length, IfOk, OnOk, OnErr};
-ghost use Rattle.mars_rows.specs.Object.{empty_table, intern, Interned};
+//! The table: rows of trees and the pins of callers on them, with the history of all calls.
+ghost use Rattle.std.specs.Prelude.{◌≡◌, ◌<◌, ◌≤◌, ◌^◌, ◌-◌, ◌+◌, length, IfOk, OnOk, OnErr, IsOk};
+ghost use Rattle.mars_canon.specs.Tree.{IsTree};
+ghost use Rattle.mars_rows.specs.Object.{intern, Interned};
 ghost use Rattle.mars_rows.specs.Sound.{IsSound};
+ghost use Rattle.mars_table.specs.declared.entry.Call.TheVariants.{Intern, Pin, Show, Drop, Sweep, Count};
+ghost use Rattle.mars_table.specs.Calls.{MayCall};
+ghost use Rattle.mars_table.specs.History.{Legal};
+ghost use Rattle.mars_table.specs.HistoryLaws.{Live};
+ghost use Rattle.mars_table.specs.TableSeen.{TableSeen, uncalled, object_of, Applied, IsDrop};
 
+use crate::entry::{Call, Entry, Handle, Reply};
 use mars_base::NoMemory;
 use mars_canon::Tree;
 use mars_rows::{Added, Rows};
 use std::alloc::Global;
 use std::marker::Model;
 
-/// The number of a row.
-#[derive(Clone, Copy, Debug, PartialEq, Eq, PartialOrd, Ord, Hash)]
-pub struct Handle(pub u128);
-
-/// Trees under numbers, each tree once, and the pins of callers on them.
+/// Trees under numbers, each tree once, the pins of callers on them, and all calls that were made.
 #[derive(Drop)]
 pub struct Table {
     rows: Rows,
+    history: Vec<Entry>,
+    cap: u64,
 }
 
 impl Model for Table {
-    ghost use Rattle.mars_rows.specs.Object.{TableObject};
+    ghost use Rattle.mars_table.specs.TableSeen.{TableSeen};
 
-    ghost Value = { TableObject };
+    ghost Value = { TableSeen };
 
-    ghost use Rattle.mars_table.specs.TableInside.{table_of, IsKept};
+    ghost use Rattle.mars_table.specs.TableInside.{seen_of, IsKept};
 
-    ghost view = { table_of };
+    ghost view = { seen_of };
 
     ghost invariant = { IsKept };
 }
@@ -34,40 +39,194 @@ impl Model for Table {
 impl Table {
     /// An empty table of at most `cap` rows.
     pub fn new(alloc: Global, cap: u64) -> Table
-        ensures { result ≡ empty_table cap }
+        ensures { result ≡ uncalled cap }
     {
         Table {
             rows: Rows::new(alloc, cap),
+            history: Vec::new(alloc),
+            cap,
         }
     }
 
-    /// Keeps a tree, with a pin of `who` on it: under its old number where the table has it. The tree is copied once,
-    /// and each of its nodes is searched for through all rows. `NoMemory` changes nothing.
-    pub fn intern(&mut self, who: u32, tree: &Tree) -> Result<Handle, NoMemory>
-        requires { length self.old.rows + length tree.now ≤ self.old.limit }
-        ensures kept { IfOk result (λ handle. intern self.old who tree.now ≡ Interned.kept handle.0 self.new) }
-        ensures limit { OnOk result (self.new.limit ≡ self.old.limit) }
-        ensures small { OnOk result (length self.new.rows ≤ length self.old.rows + length tree.now) }
+    /// Makes a call of `who`, and keeps its entry. `NoMemory` changes nothing, and never comes for a drop.
+    pub fn apply(&mut self, who: u32, call: Call) -> Result<Reply, NoMemory>
+        requires { MayCall (object_of self.old) who call }
+        ensures applied { IfOk result (λ reply. Applied self.old who call reply self.new) }
+        ensures drops { IsDrop call → IsOk result }
+        ensures as_before { OnErr result (self.new ≡ self.old) }
+    {
+        match call {
+            Call::Intern(tree) => self.keep(who, tree),
+            Call::Pin(handle) => self.pin(who, handle),
+            Call::Show(handle) => self.show(who, handle),
+            Call::Drop(handle) => Ok(self.unpin(who, handle)),
+            Call::Sweep => self.sweep(who),
+            Call::Count => self.count(who),
+        }
+    }
+
+    /// Keeps a tree that fits, with a pin of `who` on it: a call of `Intern`, whose reply is never `Full` where there is
+    /// room for all nodes of the tree. `NoMemory` changes nothing.
+    pub fn intern(&mut self, who: u32, tree: Tree) -> Result<Handle, NoMemory>
+        requires { length (object_of self.old).rows + length tree ≤ (object_of self.old).limit }
+        ensures kept { IfOk result
+            (λ handle. intern (object_of self.old) who tree ≡ Interned.kept handle.0 (object_of self.new)) }
+        ensures limit { OnOk result ((object_of self.new).limit ≡ (object_of self.old).limit) }
+        ensures small { OnOk result (length (object_of self.new).rows ≤ length (object_of self.old).rows + length tree) }
         ensures as_before { OnErr result (self.new ≡ self.old) }
     {
         let _count = tree.len();
-        let _rows = self.rows.counts();
-        match self.rows.add(tree)? {
-            Added::Root(root) => {
-                // there is room for the pin, so that this can't fail
-                self.rows.pin(who, root)?;
-                Ok(Handle(root))
-            }
-            Added::Full { .. } => unreachable!(),
+        let _counts = self.counts();
+        match self.keep(who, tree)? {
+            Reply::Kept(handle) => Ok(handle),
+            _ => unreachable!(),
         }
     }
 
-    /// How many rows and how many pins there are.
+    /// Keeps a tree, with a pin of the caller on it.
+    fn keep(&mut self, who: u32, tree: Tree) -> Result<Reply, NoMemory>
+        requires { IsTree tree }
+        ensures applied { IfOk result (λ reply. Applied self.old who (Intern tree) reply self.new) }
+        ensures as_before { OnErr result (self.new ≡ self.old) }
+    {
+        reserve(&mut self.history, &self.rows, 2)?;
+        let _entries = self.history.len();
+        match self.rows.add(&tree)? {
+            Added::Root(root) => {
+                // there is room for the pin, so that this can't fail
+                self.rows.pin(who, root)?;
+                self.history.push_reserved(Entry {
+                    who,
+                    call: Call::Intern(tree),
+                    reply: Reply::Kept(Handle(root)),
+                });
+                Ok(Reply::Kept(Handle(root)))
+            }
+            Added::Full { rows, fresh } => {
+                let cap = self.cap;
+                self.history.push_reserved(Entry {
+                    who,
+                    call: Call::Intern(tree),
+                    reply: Reply::Full { rows, fresh, cap },
+                });
+                Ok(Reply::Full { rows, fresh, cap })
+            }
+        }
+    }
+
+    /// Puts one more pin on a row.
+    fn pin(&mut self, who: u32, handle: Handle) -> Result<Reply, NoMemory>
+        requires { MayCall (object_of self.old) who (Pin handle) }
+        ensures applied { IfOk result (λ reply. Applied self.old who (Pin handle) reply self.new) }
+        ensures as_before { OnErr result (self.new ≡ self.old) }
+    {
+        reserve(&mut self.history, &self.rows, 2)?;
+        self.rows.pin(who, handle.0)?;
+        self.history.push_reserved(Entry {
+            who,
+            call: Call::Pin(handle),
+            reply: Reply::Pinned,
+        });
+        Ok(Reply::Pinned)
+    }
+
+    /// Gives the tree of a row.
+    fn show(&mut self, who: u32, handle: Handle) -> Result<Reply, NoMemory>
+        requires { MayCall (object_of self.old) who (Show handle) }
+        ensures applied { IfOk result (λ reply. Applied self.old who (Show handle) reply self.new) }
+        ensures as_before { OnErr result (self.new ≡ self.old) }
+    {
+        reserve(&mut self.history, &self.rows, 1)?;
+        let tree = self.rows.graph_of(handle.0)?;
+        let again = tree.copy()?;
+        self.history.push_reserved(Entry {
+            who,
+            call: Call::Show(handle),
+            reply: Reply::Shown(again),
+        });
+        Ok(Reply::Shown(tree))
+    }
+
+    /// Takes a pin off a row. The place of its entry was kept since the pin came.
+    fn unpin(&mut self, who: u32, handle: Handle) -> Reply
+        requires { MayCall (object_of self.old) who (Drop handle) }
+        ensures applied { Applied self.old who (Drop handle) result self.new }
+    {
+        self.rows.unpin(who, handle.0);
+        self.history.push_reserved(Entry {
+            who,
+            call: Call::Drop(handle),
+            reply: Reply::Dropped,
+        });
+        Reply::Dropped
+    }
+
+    /// Takes away the rows that no walk from a pin meets.
+    fn sweep(&mut self, who: u32) -> Result<Reply, NoMemory>
+        ensures applied { IfOk result (λ reply. Applied self.old who Sweep reply self.new) }
+        ensures as_before { OnErr result (self.new ≡ self.old) }
+    {
+        reserve(&mut self.history, &self.rows, 1)?;
+        let gone = self.rows.sweep()?;
+        self.history.push_reserved(Entry {
+            who,
+            call: Call::Sweep,
+            reply: Reply::Swept(gone),
+        });
+        Ok(Reply::Swept(gone))
+    }
+
+    /// Counts rows and pins.
+    fn count(&mut self, who: u32) -> Result<Reply, NoMemory>
+        ensures applied { IfOk result (λ reply. Applied self.old who Count reply self.new) }
+        ensures as_before { OnErr result (self.new ≡ self.old) }
+    {
+        reserve(&mut self.history, &self.rows, 1)?;
+        let (rows, pins) = self.rows.counts();
+        self.history.push_reserved(Entry {
+            who,
+            call: Call::Count,
+            reply: Reply::Counted { rows, pins },
+        });
+        Ok(Reply::Counted { rows, pins })
+    }
+
+    /// How many rows and how many pins there are. Takes no memory.
     pub fn counts(&self) -> (u64, u64)
-        ensures rows { result.0 ≡ length self.now.rows }
-        ensures pins { result.1 ≡ length self.now.pins }
-        ensures sound { IsSound self.now }
+        ensures rows { result.0 ≡ length (object_of self.now).rows }
+        ensures pins { result.1 ≡ length (object_of self.now).pins }
+        ensures sound { IsSound (object_of self.now) }
     {
         self.rows.counts()
     }
+
+    /// All calls that were made, with their replies. Takes no memory.
+    pub fn history(&self) -> &[Entry]
+        ensures list { result.now ≡ self.now.history }
+        ensures legal { Legal self.now.cap self.now.history }
+        ensures live { Live self.now.cap self.now.history }
+    {
+        self.history.as_slice()
+    }
+
+    /// The history alone. Takes no memory.
+    pub fn into_history(self) -> Vec<Entry>
+        ensures list { result.items ≡ self.history }
+        ensures legal { Legal self.cap self.history }
+        ensures live { Live self.cap self.history }
+    {
+        let Table { history, .. } = self;
+        history
+    }
+}
+
+/// Makes room for so many entries beside one for each pin.
+fn reserve(history: &mut Vec<Entry>, rows: &Rows, entries: usize) -> Result<(), NoMemory>
+    ensures items { history.new.items ≡ history.old.items }
+    ensures no_less { history.old.cap - history.old.len ≤ history.new.cap - history.new.len }
+    ensures room { OnOk result (length rows.now.table.pins + entries ≤ history.new.cap - history.new.len) }
+{
+    let (_, pins) = rows.counts();
+    history.reserve((pins as usize).checked_add(entries).ok_or(NoMemory)?)?;
+    Ok(())
 }

@@ -2,6 +2,7 @@
 #![tactic(auto)]
 
 mod run;
+mod shelf;
 mod status;
 mod text;
 mod top;

@@ -8,11 +8,12 @@ ghost use Rattle.marseille.specs.RunInside.{IsFormOf, HaveRun};
 ghost use Rattle.marseille.specs.Text.{session_line};
 ghost use Rattle.marseille.specs.Ready.{IsPutReady, IsListed};
 
+use crate::shelf::Shelf;
 use crate::text::{push_answer, push_counts, push_session};
 use mars_base::NoMemory;
 use mars_canon::{Tree, canon};
 use mars_read::{First, FirstPut};
-use mars_table::{Handle, Table};
+use mars_table::Handle;
 use mars_tree::{Graph, NameId, Names};
 use std::alloc::Global;
 
@@ -47,7 +48,7 @@ enum Form {
 #[derive(Drop)]
 struct Session {
     given: Vec<NameId>,
-    table: Table,
+    table: Shelf,
 }
 
 /// The one form of a node's tree. It takes as long as `canon`.
@@ -86,7 +87,7 @@ fn run_put(alloc: Global, session: &mut Session, put: &FirstPut) -> Result<PutAn
         Form::Free => Ok(PutAnswer::NotGround),
         Form::Large(count) => Ok(PutAnswer::TooLarge(count)),
         Form::Small(tree) => {
-            let handle = session.table.intern(0, &tree)?;
+            let handle = session.table.intern(0, tree)?;
             session.given.push(put.name)?;
             Ok(PutAnswer::Kept(handle))
         }
@@ -138,7 +139,7 @@ pub(crate) fn run(alloc: Global, first: &First) -> Result<Vec<u8>, NoMemory>
     let mut text = opening(alloc, &first.names, first.session)?;
     let mut session = Session {
         given: Vec::new(alloc),
-        table: Table::new(alloc, ROW_LIMIT),
+        table: Shelf::new(alloc, ROW_LIMIT),
     };
     run_puts(
         alloc,

@@ -1,9 +1,7 @@
 //! Trees of a row in one table: `intern TREE | TREE ..` gives the number of each.
-ghost use Rattle.std.specs.Prelude.{◌≡◌};
-
 use mars_base::NoMemory;
 use mars_canon::Tree;
-use mars_table::{Handle, Table};
+use mars_table::{Call, Handle, Reply, Table};
 use mars_tree::Graph;
 use rows::{Stop, canon_of, read_operands};
 use std::alloc::Global;
@@ -11,29 +9,22 @@ use std::alloc::Global;
 /// The table has at most so many rows.
 pub(crate) const LIMIT: u64 = 1_048_576;
 
-/// Where more rows than these are there, no tree is kept, so that there is room for each tree.
-const FULL: u64 = 1_000_000;
-
-/// A row's trees have at most so many nodes.
-const LARGEST: usize = 16_384;
-
 /// What came of a tree.
 pub(crate) enum Kept {
     Under(Handle),
     NotGround,
     TooLarge,
+    Full,
 }
 
 /// Keeps a tree where there is room.
-fn keep(table: &mut Table, who: u32, tree: &Tree) -> Result<Kept, NoMemory>
-    requires { table.old.limit ≡ 1048576 }
-    ensures { table.new.limit ≡ 1048576 }
-{
-    if table.counts().0 > FULL || tree.len() > LARGEST {
-        return Ok(Kept::TooLarge);
+fn keep(table: &mut Table, who: u32, tree: Tree) -> Result<Kept, NoMemory> {
+    // a `Tree` may be interned
+    let _count = tree.len();
+    match table.apply(who, Call::Intern(tree))? {
+        Reply::Kept(handle) => Ok(Kept::Under(handle)),
+        _ => Ok(Kept::Full),
     }
-    let handle = table.intern(who, tree)?;
-    Ok(Kept::Under(handle))
 }
 
 /// Keeps the tree of a node.
@@ -43,17 +34,14 @@ pub(crate) fn keep_root(
     who: u32,
     graph: &Graph,
     roots: &[usize],
-) -> Result<Kept, Stop>
-    requires { table.old.limit ≡ 1048576 }
-    ensures { table.new.limit ≡ 1048576 }
-{
+) -> Result<Kept, Stop> {
     let canon = canon_of(alloc, graph, roots)?;
     if !canon.ground() {
         return Ok(Kept::NotGround);
     }
     match Tree::of(alloc, &canon)? {
         Some(tree) => {
-            let kept = keep(table, who, &tree)?;
+            let kept = keep(table, who, tree)?;
             Ok(kept)
         }
         None => Ok(Kept::TooLarge),
@@ -66,6 +54,7 @@ pub(crate) fn push_kept(kept: Kept, into: &mut Vec<u8>) -> Result<(), NoMemory> 
         Kept::Under(Handle(number)) => format!(in *into.allocator(); "#{number} ")?,
         Kept::NotGround => format!(in *into.allocator(); "not ground, ")?,
         Kept::TooLarge => format!(in *into.allocator(); "too large, ")?,
+        Kept::Full => format!(in *into.allocator(); "full, ")?,
     };
     into.extend_from_slice(text.as_bytes())?;
     Ok(())

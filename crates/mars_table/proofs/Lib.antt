@@ -1,0 +1,4 @@
+pub mod CallLemmas
+pub mod PinLemmas
+pub mod HistoryLemmas
+pub mod KeptLemmas
