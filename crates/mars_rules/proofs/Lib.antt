@@ -1,0 +1,12 @@
+pub mod Layouts
+pub mod Enlarged
+pub mod Filing
+pub mod Copies
+pub mod Instanced
+pub mod Paired
+pub mod CopyingSteps
+pub mod TermFacts
+pub mod RuleParts
+pub mod Laid
+pub mod LaidRules
+pub mod Found

@@ -1,0 +1,12 @@
+use Rattle.std.proofs.Common.{subst}
+use Rattle.mars_rules.specs.BaseInside.{IsHeadKey}
+use Rattle.mars_rules.proofs.Paired.{paired-step, paired-all}
+use Rattle.mars_rules.proofs.keys.head_keys.Goals as goal
+
+pub loop-rule-preserved : goal.loop-rule-preserved
+loop-rule-preserved c =
+    paired-step IsHeadKey c.args.rules.now c.loop-rule.keys.items c.push.new.self.items c.loop-rule.rule-index c.rule-item.result c.head_key.result c.loop-rule-test.true c.in_ok-push.ensures.items c.loop-rule.invariant
+    (subst (λ rule. IsHeadKey rule c.head_key.result) c.rule-item.is c.head_key.ensures)
+
+pub returns : goal.returns
+returns c = paired-all IsHeadKey c.args.rules.now c.loop-rule.keys.items c.loop-rule.rule-index c.loop-rule-test.false c.loop-rule.invariant

@@ -1,0 +1,8 @@
+use Rattle.std.proofs.Common.{take}
+use Rattle.mars_rules.specs.PairedLists.{AllPaired}
+use Rattle.mars_rules.specs.BaseInside.{IsHeadKey}
+use Rattle.mars_rules.proofs.keys.head_keys.Given as goal
+
+-- so many rules have their keys
+abbrev pub invariant-loop-rule : goal.invariant-loop-rule
+invariant-loop-rule l = AllPaired IsHeadKey (take l.rule-index l.rules) l.keys.items

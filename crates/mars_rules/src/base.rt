@@ -1,0 +1,242 @@
+//! Rule bases.
+ghost use Rattle.std.specs.Prelude.{◌≡◌, ◌<◌, ◌++◌, [], length, slice_get, slice_index_or, Some, None, IfOk, OnOk, OnErr, All};
+ghost use Rattle.mars_rules.specs.PairedLists.{AllPaired};
+ghost use Rattle.mars_term.specs.declared.clause.Rule.{Rule};
+ghost use Rattle.mars_term.specs.declared.clause.Version.TheVariants.{One};
+ghost use Rattle.mars_term.specs.Clauses.{IsRule};
+ghost use Rattle.mars_store.specs.System.{IsSystem};
+ghost use Rattle.mars_rules.specs.Candidates.{FitsGoal, FitsFirst, IsFirstRule};
+ghost use Rattle.mars_rules.specs.Instances.{IsInstance};
+ghost use Rattle.mars_rules.specs.FlatInside.{IsFlatRule};
+ghost use Rattle.mars_rules.specs.BaseInside.{earlier_of};
+
+use crate::copying::copy_rule;
+use crate::flat::FlatRule;
+use crate::goals::Instance;
+use crate::keys::{HeadKey, first_keys, head_keys};
+use crate::laying::lay_rule;
+use crate::places::{Filed, file_places, first_place};
+use mars_base::NoMemory;
+use mars_store::Store;
+use mars_term::{Goal, Goals, Rule, Version};
+use mars_tree::Label;
+use sqlite_items::Items;
+use std::alloc::Global;
+use std::marker::Model;
+
+/// Rules in order, with a version. Each is kept as nodes, too, and its place is filed by the labels of its head and of
+/// the head's first argument.
+#[derive(Drop)]
+pub struct RuleBase {
+    alloc: Global,
+    rules: Vec<Rule>,
+    version: Version,
+    flat: Vec<FlatRule>,
+    heads: Filed,
+    firsts: Filed,
+}
+
+impl Model for RuleBase {
+    ghost use Rattle.mars_rules.specs.RuleLists.{RuleList};
+    ghost use Rattle.mars_term.specs.contracts.term.Term as term;
+    ghost use Rattle.std.specs.Coded.{codes};
+
+    ghost Value = { RuleList };
+
+    ghost coded = { Prim.hlevel (codes, term.the_row.coded) };
+
+    ghost use Rattle.mars_rules.specs.BaseInside.{IsBase};
+
+    ghost view = { λ base. record { rules = base.rules.items; version = base.version } };
+
+    ghost invariant = { λ base. IsBase base.rules.items base.flat.items base.heads.entries base.firsts.entries };
+}
+
+impl RuleBase {
+    /// Copies the rules, with version 1. Linear in them.
+    pub fn new(alloc: Global, rules: &[Rule]) -> Result<RuleBase, NoMemory>
+        requires { All IsRule rules.now }
+        ensures { IfOk result (λ base. base ≡ record { rules = rules.now; version = One }) }
+    {
+        RuleBase::join(alloc, rules, &[], Version::One)
+    }
+
+    /// Copies the rules of both lists, the global ones first. Linear in them.
+    pub fn join(
+        alloc: Global,
+        global: &[Rule],
+        local: &[Rule],
+        version: Version,
+    ) -> Result<RuleBase, NoMemory>
+        requires global { All IsRule global.now }
+        requires local { All IsRule local.now }
+        ensures { IfOk result (λ base. base ≡ record { rules = global.now ++ local.now; version = version }) }
+    {
+        let mut rules = Vec::new(alloc);
+        push_rules(alloc, global, &mut rules)?;
+        push_rules(alloc, local, &mut rules)?;
+        RuleBase::of(alloc, rules, version)
+    }
+
+    /// Lays the rules out, and files their places.
+    fn of(alloc: Global, rules: Vec<Rule>, version: Version) -> Result<RuleBase, NoMemory>
+        requires { All IsRule rules.items }
+        ensures { IfOk result (λ base. base ≡ record { rules = rules.items; version = version }) }
+    {
+        let flat = lay_rules(alloc, &rules)?;
+        let heads = file_places(alloc, &head_keys(alloc, &rules)?)?;
+        let firsts = file_places(alloc, &first_keys(alloc, &rules)?)?;
+        Ok(RuleBase {
+            alloc,
+            rules,
+            version,
+            flat,
+            heads,
+            firsts,
+        })
+    }
+
+    /// The version by which the rules are read.
+    pub fn version(&self) -> Version
+        ensures { result ≡ self.now.version }
+    {
+        self.version
+    }
+
+    /// The least rule at or after a place whose head has the label of a goal, or any rule for a goal without a label;
+    /// `None` exactly where there is none. It looks at the places of that label alone, by halves. Takes no memory.
+    pub fn candidate(&self, goal: Option<Label>, from: usize) -> Option<usize>
+        ensures { IsFirstRule (FitsGoal goal) self.now.rules from result }
+    {
+        match goal {
+            Some(label) => first_place(&self.heads, &HeadKey { label, first: None }, from),
+            None => any_from(&self.rules, from),
+        }
+    }
+
+    /// The least of the rules that `candidate` may give whose head's first argument is a variable or has the label of the
+    /// goal's first argument; `None` exactly where there is none. A goal without a label, or whose first argument has
+    /// none, is that of `candidate`. It looks at the places of those labels alone, by halves. Takes no memory.
+    pub fn candidate_by(
+        &self,
+        goal: Option<Label>,
+        first: Option<Label>,
+        from: usize,
+    ) -> Option<usize>
+        ensures { IsFirstRule (FitsFirst goal first) self.now.rules from result }
+    {
+        match goal {
+            Some(label) => match first {
+                Some(argument) => self.candidate_of(label, argument, from),
+                None => self.candidate(goal, from),
+            },
+            None => self.candidate(goal, from),
+        }
+    }
+
+    /// The least rule from a place on with these labels of the head and of its first argument, or with a variable there.
+    fn candidate_of(&self, label: Label, argument: Label, from: usize) -> Option<usize>
+        ensures { IsFirstRule (FitsFirst (Some label) (Some argument)) self.now.rules from result }
+    {
+        let open = HeadKey { label, first: None };
+        let same = HeadKey {
+            label,
+            first: Some(argument),
+        };
+        earlier(
+            first_place(&self.firsts, &open, from),
+            first_place(&self.firsts, &same, from),
+        )
+    }
+
+    /// A copy of a rule, counted from 0, with new variables. Linear in the nodes of its terms. Out of memory leaves the
+    /// store as it was.
+    pub fn instance(&self, store: &mut Store, rule: usize) -> Result<Instance, NoMemory>
+        requires { rule < length self.now.rules }
+        ensures copy { (written : Rule) → slice_get self.now.rules rule ≡ Some written → IfOk result (λ copy. IsInstance store.old store.new written copy) }
+        ensures err { OnErr result (store.new ≡ store.old) }
+        ensures system { IsSystem store.new }
+    {
+        copy_rule(self.alloc, store, flat_at(&self.flat, rule))
+    }
+}
+
+/// The first of all rules from a place on.
+fn any_from(rules: &[Rule], from: usize) -> Option<usize>
+    ensures { IsFirstRule (FitsGoal None) rules.now from result }
+{
+    if from < rules.len() { Some(from) } else { None }
+}
+
+/// The rule at a place, as nodes.
+fn flat_at(flat: &[FlatRule], rule: usize) -> &FlatRule
+    requires { rule < length flat.now }
+    ensures { result.now ≡ slice_index_or flat.now rule result.now }
+{
+    &flat[rule]
+}
+
+/// The lesser of two places, either of which may be missing.
+fn earlier(one: Option<usize>, other: Option<usize>) -> Option<usize>
+    ensures { result ≡ earlier_of one other }
+{
+    match (one, other) {
+        (Some(one), Some(other)) => Some(one.min(other)),
+        (Some(one), None) => Some(one),
+        (None, other) => other,
+    }
+}
+
+/// Adds copies of rules.
+fn push_rules(alloc: Global, from: &[Rule], rules: &mut Vec<Rule>) -> Result<(), NoMemory>
+    ensures { OnOk result (rules.new.items ≡ rules.old.items ++ from.now) }
+{
+    for rule in from {
+        rules.push(copy_of(alloc, rule)?)?;
+    }
+    Ok(())
+}
+
+/// The same rule once more.
+fn copy_of(alloc: Global, rule: &Rule) -> Result<Rule, NoMemory>
+    ensures { IfOk result (λ copy. copy ≡ rule.now) }
+{
+    Ok(Rule {
+        head: rule.head.copy(alloc)?,
+        body: copy_body(alloc, rule.body.as_slice())?,
+        vars: rule.vars,
+    })
+}
+
+/// The same goals once more.
+fn copy_body(alloc: Global, goals: &[Goal]) -> Result<Goals, NoMemory>
+    ensures { IfOk result (λ copy. copy ≡ goals.now) }
+{
+    let mut copy = Items::new(alloc);
+    for goal in goals {
+        copy.push(copy_goal(alloc, goal)?)?;
+    }
+    Ok(copy)
+}
+
+/// The same goal once more.
+fn copy_goal(alloc: Global, goal: &Goal) -> Result<Goal, NoMemory>
+    ensures { IfOk result (λ copy. copy ≡ goal.now) }
+{
+    match goal {
+        Goal::Call(term) => Ok(Goal::Call(term.copy(alloc)?)),
+        Goal::Cut => Ok(Goal::Cut),
+    }
+}
+
+/// Each rule as nodes.
+fn lay_rules(alloc: Global, rules: &[Rule]) -> Result<Vec<FlatRule>, NoMemory>
+    requires { All IsRule rules.now }
+    ensures { IfOk result (λ flat. AllPaired IsFlatRule rules.now flat.items) }
+{
+    let mut flat = Vec::new(alloc);
+    for rule in rules {
+        flat.push(lay_rule(alloc, rule)?)?;
+    }
+    Ok(flat)
+}

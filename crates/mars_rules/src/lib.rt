@@ -1,0 +1,13 @@
+//! Rule bases: which rules a call may take, and copies of rules in a store.
+#![tactic(auto)]
+
+mod base;
+mod copying;
+mod flat;
+mod goals;
+mod keys;
+mod laying;
+mod places;
+
+pub use base::RuleBase;
+pub use goals::{BodyGoal, BodyGoals, Instance};
