@@ -5,7 +5,7 @@ use Rattle.std.proofs.lemmas.Option.{same_Some, none-some, slice_get_within, sli
 use Rattle.mars_tree.specs.declared.label.Label.{Label}
 use Rattle.mars_term.specs.declared.clause.Rule.{Rule}
 use Rattle.mars_rules.specs.declared.flat.FlatRule.{FlatRule}
-use Rattle.mars_rules.specs.FlatInside.{IsFlatRule}
+use Rattle.mars_rules.specs.FlatRules.{IsFlatRule}
 use Rattle.mars_rules.specs.declared.keys.HeadKey.{HeadKey}
 use Rattle.mars_rules.specs.PairedLists.{AllPaired}
 use Rattle.mars_rules.specs.TermTrees.{label_of_term, arguments_of}

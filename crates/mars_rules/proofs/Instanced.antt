@@ -16,7 +16,7 @@ use Rattle.mars_rules.specs.declared.flat.FlatRule.{FlatRule}
 use Rattle.mars_rules.specs.declared.goals.BodyGoal.{BodyGoal}
 use Rattle.mars_rules.specs.declared.goals.BodyGoal.TheVariants as copied
 use Rattle.mars_rules.specs.PairedLists.{AllPaired}
-use Rattle.mars_rules.specs.FlatInside.{IsFlatTerm, IsFlatGoal, IsFlatRule}
+use Rattle.mars_rules.specs.FlatRules.{IsFlatTerm, IsFlatGoal, IsFlatRule}
 use Rattle.mars_rules.specs.CopyingInside.{shifted, with_nodes, IsCopiedGoal, IsGoalBelow}
 use Rattle.mars_rules.specs.Instances.{HasTermTree, IsGoalOf, IsInstance, trees_at, new_variable, TakeAnyTrees}
 use Rattle.mars_rules.proofs.Copies.{copied-system, copied-size, copy-tree, copy-free, grows-nodes}

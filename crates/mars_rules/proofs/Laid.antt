@@ -12,7 +12,7 @@ use Rattle.mars_term.specs.declared.term.Term.{Term, Var, Int, Name, Tup, Dot, S
 use Rattle.mars_term.specs.Parts.{parts_of, HasShortList}
 use Rattle.mars_term.specs.Rows.{dots}
 use Rattle.mars_term.proofs.RowLemmas.{dots-push}
-use Rattle.mars_rules.specs.FlatInside.{IsFlatTerm, IsOwnPlace}
+use Rattle.mars_rules.specs.FlatRules.{IsFlatTerm, IsOwnPlace}
 use Rattle.mars_rules.specs.LayingInside.{IsLayout, IsRulePart, AddsNodes, IsLaidOut, AreLaidTerms, IsDotRow, IsRowLaid}
 use Rattle.mars_rules.proofs.Layouts.{flat-kept, flat-added, adds-more, adds-refl, adds-trans, own-later, laid-node, laid-variable}
 use Rattle.mars_rules.proofs.TermFacts.{label-Var, label-Int, label-Name, label-Tup, label-Dot, label-Str, arguments-Int, arguments-Name, arguments-Tup, arguments-Dot, arguments-Str, tree-Var}

@@ -15,7 +15,7 @@ use Rattle.mars_rules.specs.declared.flat.FlatGoal.{FlatGoal}
 use Rattle.mars_rules.specs.declared.flat.FlatGoal.TheVariants as flat
 use Rattle.mars_rules.specs.PairedLists.{AllPaired}
 use Rattle.mars_rules.specs.TermTrees.{label_of_term, no_trees, own_tree}
-use Rattle.mars_rules.specs.FlatInside.{IsFlatTerm, IsFlatGoal, IsOwnPlace}
+use Rattle.mars_rules.specs.FlatRules.{IsFlatTerm, IsFlatGoal, IsOwnPlace}
 use Rattle.mars_rules.specs.LayingInside.{IsLayout, AddsNodes, IsLaidOut, IsLaidGoal, AreLaidGoals}
 use Rattle.mars_rules.proofs.Layouts.{flat-added, adds-more, adds-refl, adds-trans, own-later}
 use Rattle.mars_rules.proofs.Paired.{paired-step, paired-all, paired-weaker}

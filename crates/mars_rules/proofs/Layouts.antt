@@ -12,7 +12,7 @@ use Rattle.mars_store.proofs.CallerLemmas.{system-node}
 use Rattle.mars_matching.specs.Trees.{Trees, tree_at, root_at, below}
 use Rattle.mars_matching.proofs.Steps.{tree-free}
 use Rattle.mars_rules.specs.TermTrees.{label_of_term, arguments_of, own_tree, no_trees, rule_tree}
-use Rattle.mars_rules.specs.FlatInside.{IsFlatTerm, IsOwnPlace}
+use Rattle.mars_rules.specs.FlatRules.{IsFlatTerm, IsOwnPlace}
 use Rattle.mars_rules.specs.LayingInside.{IsLayout, AddsNodes, IsLaidOut, AreLaidTerms}
 
 pub and_then-same : {X Y : Type 0} (f h : X → Option Y) (o : Option X) → ((x : X) → o ≡ Some x → f x ≡ h x) → option_and_then f o ≡ option_and_then h o

@@ -8,7 +8,7 @@ use Rattle.mars_rules.specs.declared.flat.FlatRule.{FlatRule}
 use Rattle.mars_rules.specs.declared.keys.HeadKey.{HeadKey}
 use Rattle.mars_rules.specs.TermTrees.{label_of_term, arguments_of}
 use Rattle.mars_rules.specs.Candidates.{label_of_first}
-use Rattle.mars_rules.specs.FlatInside.{IsFlatRule}
+use Rattle.mars_rules.specs.FlatRules.{IsFlatRule}
 use Rattle.mars_rules.specs.PlacesInside.{AreFiledPlaces}
 
 -- the key of the head's label alone

@@ -8,7 +8,7 @@ use Rattle.mars_term.specs.declared.clause.Goal.{Goal}
 use Rattle.mars_term.specs.Rows.{dots}
 use Rattle.mars_rules.specs.declared.flat.FlatGoal.{FlatGoal}
 use Rattle.mars_rules.specs.TermTrees.{label_of_term}
-use Rattle.mars_rules.specs.FlatInside.{IsFlatTerm, IsOwnPlace, IsFlatGoal}
+use Rattle.mars_rules.specs.FlatRules.{IsFlatTerm, IsOwnPlace, IsFlatGoal}
 
 -- a part of a rule's term: a variable has a number below their count, a list can be counted, and there is no kept name
 pub record IsRulePart (vars : ℕ) (part : Term) : Type 0 where

@@ -7,8 +7,9 @@ ghost use Rattle.mars_term.specs.Clauses.{IsRule};
 ghost use Rattle.mars_store.specs.System.{IsSystem};
 ghost use Rattle.mars_rules.specs.Candidates.{FitsGoal, FitsFirst, IsFirstRule};
 ghost use Rattle.mars_rules.specs.Instances.{IsInstance};
-ghost use Rattle.mars_rules.specs.FlatInside.{IsFlatRule};
+ghost use Rattle.mars_rules.specs.FlatRules.{IsFlatRule};
 ghost use Rattle.mars_rules.specs.BaseInside.{earlier_of};
+ghost use Rattle.mars_rules.specs.BaseEquality.{same_base};
 
 use crate::copying::copy_rule;
 use crate::flat::FlatRule;
@@ -149,6 +150,14 @@ impl RuleBase {
         )
     }
 
+    /// A rule, counted from 0, as a template, whose head can be matched and whose body built by `mars_matching`.
+    pub fn flat(&self, rule: usize) -> &FlatRule
+        requires { rule < length self.now.rules }
+        ensures { (written : Rule) → slice_get self.now.rules rule ≡ Some written → IsFlatRule written result.now }
+    {
+        flat_at(&self.flat, rule)
+    }
+
     /// A copy of a rule, counted from 0, with new variables. Linear in the nodes of its terms. Out of memory leaves the
     /// store as it was.
     pub fn instance(&self, store: &mut Store, rule: usize) -> Result<Instance, NoMemory>
@@ -159,6 +168,37 @@ impl RuleBase {
     {
         copy_rule(self.alloc, store, flat_at(&self.flat, rule))
     }
+}
+
+impl PartialEq for RuleBase {
+    ghost use Rattle.std.specs.Prelude.{◌≡◌, ◌↔◌, IsTrue};
+    ghost use Rattle.mars_rules.specs.BaseEquality.{same_base};
+    ghost use Rattle.mars_rules.specs.BaseEqualityLaws.{bases_partial_equivalence};
+
+    ghost eq = { same_base };
+
+    ghost laws = { bases_partial_equivalence };
+
+    /// Whether two have the same version, and the same rules in the same order. Linear in the rules.
+    fn eq(&self, other: &RuleBase) -> bool
+        ensures value { result ≡ same_base self.now other.now }
+        ensures same { IsTrue result ↔ (self.now ≡ other.now) }
+    {
+        same_parts(self.version, other.version, &self.rules, &other.rules)
+    }
+}
+
+impl Eq for RuleBase {
+    ghost use Rattle.mars_rules.specs.BaseEqualityLaws.{bases_equivalence};
+
+    ghost laws = { bases_equivalence };
+}
+
+/// Whether two versions are one, and two lists of rules.
+fn same_parts(version: Version, of_other: Version, rules: &[Rule], others: &[Rule]) -> bool
+    ensures { result ≡ same_base (record { rules = rules.now; version = version }) (record { rules = others.now; version = of_other }) }
+{
+    version == of_other && rules == others
 }
 
 /// The first of all rules from a place on.

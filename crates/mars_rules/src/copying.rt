@@ -6,7 +6,7 @@ ghost use Rattle.mars_term.specs.declared.clause.Rule.{Rule};
 ghost use Rattle.mars_tree.specs.Graph.{IsNode, free_leaf};
 ghost use Rattle.mars_store.specs.System.{IsSystem, Grows, with_node};
 ghost use Rattle.mars_rules.specs.CopyingInside.{node_over, shifted, with_nodes, IsCopiedGoal, IsGoalBelow};
-ghost use Rattle.mars_rules.specs.FlatInside.{IsFlatRule};
+ghost use Rattle.mars_rules.specs.FlatRules.{IsFlatRule};
 ghost use Rattle.mars_rules.specs.Instances.{IsInstance};
 
 use crate::flat::{FlatGoal, FlatRule};

@@ -2,15 +2,15 @@
 use mars_matching::Template;
 
 /// A goal of a rule's body: a call of the term at a place, or a cut.
-#[derive(Clone, Copy)]
-pub(crate) enum FlatGoal {
+#[derive(Clone, Copy, Debug)]
+pub enum FlatGoal {
     Call(usize),
     Cut,
 }
 
 /// A rule's head and body as nodes, and its goals as places of these.
 #[derive(Drop)]
-pub(crate) struct FlatRule {
-    pub(crate) template: Template,
-    pub(crate) goals: Vec<FlatGoal>,
+pub struct FlatRule {
+    pub template: Template,
+    pub goals: Vec<FlatGoal>,
 }

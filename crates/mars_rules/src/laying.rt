@@ -8,7 +8,7 @@ ghost use Rattle.mars_term.specs.Parts.{parts_of};
 ghost use Rattle.std.specs.List.{flat_map};
 ghost use Rattle.mars_term.specs.declared.term.Term.{Dot};
 ghost use Rattle.mars_term.specs.Rows.{dots};
-ghost use Rattle.mars_rules.specs.FlatInside.{IsFlatRule};
+ghost use Rattle.mars_rules.specs.FlatRules.{IsFlatRule};
 ghost use Rattle.mars_rules.specs.LayingInside.{IsLayout, IsRulePart, IsLaidOut, IsLaidGoal, AreLaidGoals, AreLaidTerms, IsRowLaid};
 
 use crate::flat::{FlatGoal, FlatRule};

@@ -10,4 +10,5 @@ mod laying;
 mod places;
 
 pub use base::RuleBase;
+pub use flat::{FlatGoal, FlatRule};
 pub use goals::{BodyGoal, BodyGoals, Instance};

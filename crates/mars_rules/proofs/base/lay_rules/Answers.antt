@@ -1,5 +1,5 @@
 use Rattle.std.proofs.Common.{subst}
-use Rattle.mars_rules.specs.FlatInside.{IsFlatRule}
+use Rattle.mars_rules.specs.FlatRules.{IsFlatRule}
 use Rattle.mars_rules.proofs.Paired.{paired-step, paired-all}
 use Rattle.mars_rules.proofs.base.lay_rules.Goals as goal
 

@@ -1,6 +1,6 @@
 use Rattle.std.proofs.Common.{take}
 use Rattle.mars_rules.specs.PairedLists.{AllPaired}
-use Rattle.mars_rules.specs.FlatInside.{IsFlatRule}
+use Rattle.mars_rules.specs.FlatRules.{IsFlatRule}
 use Rattle.mars_rules.proofs.base.lay_rules.Given as goal
 
 -- so many rules were laid out

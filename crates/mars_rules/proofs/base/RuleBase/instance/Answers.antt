@@ -1,6 +1,6 @@
 use Rattle.std.proofs.Common.{◌≡◌, length, get_or, ap, sym, ◌∙◌, subst, arith, slice_get, Some}
 use Rattle.mars_rules.specs.RuleLists.{RuleList}
-use Rattle.mars_rules.specs.FlatInside.{IsFlatRule}
+use Rattle.mars_rules.specs.FlatRules.{IsFlatRule}
 use Rattle.mars_rules.proofs.Paired.{paired-size}
 use Rattle.mars_rules.proofs.Found.{flat-at, some-flat}
 use Rattle.mars_rules.proofs.base.RuleBase.instance.Goals as goal

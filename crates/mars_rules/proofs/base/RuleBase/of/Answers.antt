@@ -1,7 +1,7 @@
 use Rattle.std.proofs.Common.{sym, subst, All}
 use Rattle.mars_term.specs.Clauses.{IsRule}
 use Rattle.mars_rules.specs.PairedLists.{AllPaired}
-use Rattle.mars_rules.specs.FlatInside.{IsFlatRule}
+use Rattle.mars_rules.specs.FlatRules.{IsFlatRule}
 use Rattle.mars_rules.specs.PlacesInside.{AreFiledPlaces}
 use Rattle.mars_rules.specs.BaseInside.{IsHeadKey, IsFirstKey}
 use Rattle.mars_rules.proofs.base.RuleBase.of.Goals as goal

@@ -1,4 +1,4 @@
--- Inside: rules as nodes, whose places have the trees of the rule's terms, whatever trees the variables have.
+-- Rules as templates, whose places have the trees of the rule's terms, whatever trees the variables have.
 use Rattle.std.specs.Prelude.{◌≡◌, ◌⊎◌, ℕ, ◌<◌, ◌≤◌, ◌+◌, List, length}
 use Rattle.mars_rules.specs.PairedLists.{AllPaired}
 use Rattle.mars_tree.specs.Graph.{Node}
