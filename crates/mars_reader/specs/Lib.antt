@@ -3,3 +3,4 @@ pub mod Spellings
 pub mod Spelled
 pub mod Refused
 pub mod ReadTree
+pub mod ReadInput

@@ -2,12 +2,14 @@
 #![tactic(auto)]
 
 mod error;
+mod inputs;
 mod more_names;
 mod reading;
 mod spelled;
 mod spellings;
 
 pub use error::{ReadError, TEXT_LIMIT, What};
+pub use inputs::read_input;
 pub use more_names::MoreNames;
 pub use reading::read_tree;
 pub use spelled::Spelled;
