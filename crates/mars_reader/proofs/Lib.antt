@@ -1,4 +1,10 @@
 mod Told
 mod NameFacts
 mod Refusals
+mod Counting
+mod Reads
+mod TreeTerms
 mod Trees
+mod Inputs
+mod Goals
+mod OneReading

@@ -4,3 +4,4 @@ pub mod Spelled
 pub mod Refused
 pub mod ReadTree
 pub mod ReadInput
+pub mod ReadGoals

@@ -1,5 +1,5 @@
 //! The names that were there before a text, and those that it adds.
-ghost use Rattle.std.specs.Prelude.{◌≡◌, ◌+◌, ◌++◌, [], None, IfOk, OnOk};
+ghost use Rattle.std.specs.Prelude.{◌≡◌, ◌+◌, ◌++◌, [], None, length, IfOk, OnOk};
 ghost use Rattle.mars_tree.specs.Names.{name_number, place_of};
 ghost use Rattle.mars_clauses.specs.Short.{short_number};
 ghost use Rattle.mars_reader.specs.Spellings.{added_of, added_with};
@@ -44,20 +44,21 @@ impl<'a> MoreNames<'a> {
         ensures known { OnOk result (self.new.known.now ≡ self.old.known.now) }
         ensures added { OnOk result (added_of self.new ≡ added_with text.now self.old.known.now (added_of self.old)) }
     {
+        let first = self.known.len();
         match self.known.find(text) {
             Some(id) => Ok(id),
-            None => self.added_id(text),
+            None => self.added_id(first, text),
         }
     }
 
-    /// The number of a text that wasn't there before.
-    fn added_id(&mut self, text: &[u8]) -> Result<NameId, NoMemory>
-        requires { place_of text.now self.old.known.now ≡ None }
+    /// The number of a text that wasn't there before, after so many names.
+    fn added_id(&mut self, first: usize, text: &[u8]) -> Result<NameId, NoMemory>
+        requires first { first ≡ length self.old.known.now }
+        requires new { place_of text.now self.old.known.now ≡ None }
         ensures place { IfOk result (λ id. id.0 ≡ short_number (name_number text.now (self.old.known.now ++ added_of self.old))) }
         ensures known { OnOk result (self.new.known.now ≡ self.old.known.now) }
         ensures added { OnOk result (added_of self.new ≡ added_with text.now self.old.known.now (added_of self.old)) }
     {
-        let first = self.known.len();
         match self.added.get_index_of(text) {
             Some(index) => Ok(number_after(first, index)),
             None => {
