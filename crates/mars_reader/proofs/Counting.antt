@@ -1,10 +1,10 @@
 -- How many tokens, events and names a text has.
-use Rattle.std.proofs.Common.{◌≡◌, ◌≢◌, ℕ, zero, suc, ◌+◌, ◌≤◌, ◌*◌, List, [], ◌∷◌, ◌++◌, length, refl, ap, sym, ◌∙◌, subst, Bool, true, false, ◌&&◌, Option, Some, None, arith, length-append, if◌then◌else◌}
+use Rattle.std.proofs.Common.{◌≡◌, ◌≢◌, ℕ, ◌+◌, ◌≤◌, ◌*◌, List, [], ◌∷◌, ◌++◌, length, refl, ap, sym, ◌∙◌, subst, Bool, true, false, ◌&&◌, Option, Some, None, arith, length-append, if◌then◌else◌}
 use Rattle.std.specs.Prelude.{is_some, nat_le, slice_get}
 use Rattle.std.proofs.lemmas.Bool.Decides.{nat_tests}
 use Rattle.mars_tree.specs.Names.{place_of}
 use Rattle.mars_grammar.specs.FormTable.{Event, Read, Say, said_events, leaves_in, Derives, nothing, taken, left_out}
-use Rattle.mars_grammar.specs.Testing.{all_of}
+use Rattle.mars_grammar.specs.Rows.{RowList, rows_at, first_row, form_if}
 use Rattle.mars_forms.specs.declared.lexeme.TokenKind.{TokenKind}
 use Rattle.mars_forms.specs.declared.lexeme.Lexeme.{Lexeme}
 use Rattle.mars_forms.specs.declared.symbol.FormSymbol.{FormSymbol}
@@ -12,8 +12,8 @@ use Rattle.mars_forms.specs.declared.symbol.FormSymbol.TheVariants as due
 use Rattle.mars_forms.specs.declared.symbol.FormAction.{FormAction}
 use Rattle.mars_forms.specs.declared.symbol.FormAction.TheVariants as action
 use Rattle.mars_forms.specs.declared.symbol.FormMode.{FormMode}
-use Rattle.mars_forms.specs.Table.{forms}
-use Rattle.mars_forms.specs.TableTest.{forms_test, passes}
+use Rattle.mars_forms.specs.declared.symbol.Trigger.{Trigger}
+use Rattle.mars_forms.specs.Table.{forms, entries, symbol_place, begins}
 use Rattle.mars_tokens.specs.declared.lexer.TokenRefusal.{TokenRefusal}
 use Rattle.mars_tokens.specs.Tokens.{TokensFrom}
 use Rattle.mars_tokens.specs.Tokens as tokens
@@ -57,7 +57,7 @@ all_say [] = 0
 all_say (s ∷ k) = says s + all_say k
 
 all-say : (form k : List FormSymbol) → all_say (form ++ k) ≡ all_say form + all_say k
-all-say [] k = refl
+all-say [] k = omega arith
 all-say (s ∷ form) k = omega (arith, all-say form k)
 
 abbrev left_count : Option (List FormAction) → ℕ
@@ -73,48 +73,44 @@ left-free two m s as' true is e = absurd (let none : None ≡ Some as' = rw is a
 left-free two m s as' false is e = rw is at e
 
 -- a token brings at most one action
-abbrev form_says : Option (List FormSymbol) → ℕ
-form_says None = 0
-form_says (Some form) = all_say form
+-- what holds of the form of each row holds of each form that is due
+abbrev pub all_rows : {O S : Type 0} → (List S → Bool) → RowList O S → Bool
+all_rows p [] = true
+all_rows p (r ∷ rows) = p r.1 && all_rows p rows
 
-abbrev few_say : Bool → FormSymbol → TokenKind → Bool
-few_say two s k = nat_le (form_says ((forms two).takes s k)) 1
+and-first : (a b : Bool) → a && b ≡ true → a ≡ true
+and-first true b e = refl
+and-first false b e = cc
 
-abbrev all_few : Bool → Bool
-all_few two = all_of (λ s. all_of (λ k. few_say two s k) (forms_test two).kinds) (forms_test two).symbols
+and-second : (a b : Bool) → a && b ≡ true → b ≡ true
+and-second true b e = e
+and-second false b e = cc
 
-all-few : (two : Bool) → all_few two ≡ true
-all-few false = refl
-all-few true = refl
+form-by : {S : Type 0} (p : List S → Bool) (b : Bool) (form other : List S) (later : Option (List S)) → p form ≡ true → (later ≡ Some other → p other ≡ true) → form_if b form later ≡ Some other → p other ≡ true
+form-by p true form other later is more e = let same : form ≡ other = cc in subst (λ f. p f ≡ true) same is
+form-by p false form other later is more e = more e
 
-pub holds-at : {A : Type 0} (p : A → Bool) (us : List A) → all_of p us ≡ true → (i : ℕ) (u : A) → slice_get us i ≡ Some u → p u ≡ true
-holds-at p [] e i u at = cc
-holds-at p (x ∷ us) e zero u at = let same : x ≡ u = cc in subst (λ u. p u ≡ true) same (first (p x) (all_of p us) e)
-  where
-    first : (a b : Bool) → a && b ≡ true → a ≡ true
-    first true b e = refl
-    first false b e = cc
-holds-at p (x ∷ us) e (suc i) u at = holds-at p us (later (p x) (all_of p us) e) i u at
-  where
-    later : (a b : Bool) → a && b ≡ true → b ≡ true
-    later true b e = e
-    later false b e = cc
+pub row-holds : {O S : Type 0} (p : List S → Bool) (fires : O → Bool) (rows : RowList O S) (form : List S) → all_rows p rows ≡ true → first_row fires rows ≡ Some form → p form ≡ true
+row-holds p fires [] form is e = cc
+row-holds p fires (r ∷ rows) form is e = form-by p (fires r.0) r.1 form (first_row fires rows) (and-first (p r.1) _ is) (λ f. row-holds p fires rows form (and-second (p r.1) _ is) f) e
 
-few-says : (two : Bool) (s : FormSymbol) (k : TokenKind) → few_say two s k ≡ true
-few-says two s k =
-    let P = passes two in
-    holds-at (λ k. few_say two s k) (forms_test two).kinds
-    (holds-at (λ s. all_of (λ k. few_say two s k) (forms_test two).kinds) (forms_test two).symbols (all-few two) ((forms_test two).symbol_place s) s (P.all_symbols s))
-    ((forms_test two).kind_place k) k (P.all_kinds k)
+abbrev pub rows_of : FormSymbol → RowList Trigger FormSymbol
+rows_of s = rows_at (slice_get entries (symbol_place s))
+
+abbrev few_say : List FormSymbol → Bool
+few_say form = nat_le (all_say form) 1
+
+rows-few : (s : FormSymbol) → all_rows few_say (rows_of s) ≡ true
+rows-few = elim [ due.Input ↦ refl | _ ↦ refl ]
 
 is-few : (n : ℕ) → nat_le n 1 ≡ true → n ≤ 1
 is-few n e = grind (arith, nat_tests)
 
 form-few : (two : Bool) (s : FormSymbol) (k : TokenKind) (form : List FormSymbol) → (forms two).takes s k ≡ Some form → all_say form ≤ 1
-form-few two s k form e = is-few (all_say form) (subst (λ o. nat_le (form_says o) 1 ≡ true) e (few-says two s k))
+form-few two s k form e = is-few (all_say form) (row-holds few_say (λ tr. begins two tr k) (rows_of s) form (rows-few s) e)
 
 said-length : {S T A : Type 0} (as' : List A) (es : List (Event S T A)) → length (said_events as' ++ es) ≡ length as' + length es
-said-length [] es = refl
+said-length [] es = omega arith
 said-length (a ∷ as') es = omega (arith, said-length as' es)
 
 -- at most two events a token, and one for each symbol that is told where it is left out
@@ -123,8 +119,12 @@ text-events two m _ _ _ nothing = omega arith
 text-events two m _ _ _ (taken {s} {k} {form} {t} {ts} {es} e d) =
     omega (arith, text-events two ((forms two).pass t.kind m) (form ++ k) ts es d, all-say form k, form-few two s t.kind form e)
 text-events two m _ _ _ (left_out {s} {k} {ts} {as'} {es} e d) =
-    omega (arith, text-events two m k ts es d, said-length {FormSymbol} {Lexeme} as' es,
-        sym (ap left_count (left-free two m s as' ((forms two).stays m s) refl e)) ∙ left-says two s)
+    omega (
+      arith,
+      text-events two m k ts es d,
+      said-length {S = FormSymbol} {T = Lexeme} as' es,
+      sym (ap left_count (left-free two m s as' ((forms two).stays m s) refl e)) ∙ left-says two s,
+    )
 
 -- each token has a byte
 some-byte : (two : Bool) (text rest : List ℕ) (p : Piece) → IsPiece two text p → IsLongestPiece two text rest → 1 ≤ length text

@@ -2,9 +2,9 @@ mod Told
 mod NameFacts
 mod Refusals
 mod Counting
-mod Reads
+mod Readings
 mod TreeTerms
-mod Trees
-mod Inputs
-mod Goals
+mod TreesMade
+mod InputsMade
+mod GoalsClosed
 mod OneReading

@@ -14,7 +14,10 @@ use Rattle.mars_forms.specs.declared.symbol.FormSymbol.TheVariants as due
 use Rattle.mars_forms.specs.declared.symbol.FormAction.{FormAction}
 use Rattle.mars_forms.specs.declared.symbol.FormAction.TheVariants as action
 use Rattle.mars_forms.specs.declared.symbol.FormMode.{FormMode}
-use Rattle.mars_forms.specs.Table.{forms, is_name}
+use Rattle.mars_forms.specs.declared.symbol.Trigger.{Trigger}
+use Rattle.mars_forms.specs.declared.symbol.Trigger.TheVariants as trigger
+use Rattle.mars_forms.specs.Table.{forms, is_name, begins}
+use Rattle.mars_grammar.specs.Rows.{RowList, first_row, form_if}
 use Rattle.mars_clauses.specs.declared.maker.ValuedToken.{ValuedToken}
 use Rattle.mars_graphs.specs.declared.maker.Head.{Head}
 use Rattle.mars_graphs.specs.declared.maker.Head.TheVariants as head
@@ -23,7 +26,7 @@ use Rattle.mars_graphs.specs.Steps.{TreeStep, Variable, Leaf, Open, Close, Equat
 use Rattle.mars_scripts.specs.Trees.{part_told, token_told, action_told, step_before, steps_told}
 use Rattle.mars_reader.specs.Spellings.{Spellings, meaning_of, role_of, with_token}
 use Rattle.mars_reader.specs.Spelled.{events_told}
-use Rattle.mars_reader.proofs.Counting.{left-free}
+use Rattle.mars_reader.proofs.Counting.{left-free, rows_of}
 use Rattle.mars_reader.proofs.Told.{same-kind, told-said}
 
 -- the number of terms, and the heads that are open
@@ -169,31 +172,23 @@ is_of_tree due.Define = true
 is_of_tree _ = false
 
 -- what is due after a token
-abbrev after_name : FormSymbol → Bool → Option (List FormSymbol)
-after_name tail true = Some (due.PutArguments ∷ due.Apply ∷ tail ∷ [])
-after_name tail false = None
-
-abbrev after_text : FormSymbol → Bool → Option (List FormSymbol)
-after_text tail true = Some (tail ∷ [])
-after_text tail false = None
-
 abbrev put_form : Bool → TokenKind → Option (List FormSymbol)
 put_form two kind.Variable = Some (due.PutTail ∷ [])
 put_form two kind.Placed = Some (due.PutTail ∷ [])
 put_form two kind.Integer = Some (due.PutTail ∷ [])
-put_form two kind.Text = after_text due.PutTail two
+put_form two kind.Text = form_if (two && true) (due.PutTail ∷ []) None
 put_form two kind.Less = Some (due.PutTerm ∷ due.PutRow ∷ due.OneGreater ∷ due.Apply ∷ due.PutTail ∷ [])
 put_form two kind.Open = Some (due.PutTerm ∷ due.OneClose ∷ due.PutTail ∷ [])
-put_form two k = after_name due.PutTail (is_name two k)
+put_form two k = form_if (is_name two k) (due.PutArguments ∷ due.Apply ∷ due.PutTail ∷ []) None
 
 abbrev defined_form : Bool → TokenKind → Option (List FormSymbol)
 defined_form two kind.Variable = Some (due.OneDot ∷ due.PutTerm ∷ due.Pair ∷ [])
 defined_form two kind.Placed = Some (due.OneDot ∷ due.PutTerm ∷ due.Pair ∷ [])
 defined_form two kind.Integer = Some (due.PutTail ∷ [])
-defined_form two kind.Text = after_text due.PutTail two
+defined_form two kind.Text = form_if (two && true) (due.PutTail ∷ []) None
 defined_form two kind.Less = Some (due.PutTerm ∷ due.PutRow ∷ due.OneGreater ∷ due.Apply ∷ due.PutTail ∷ [])
 defined_form two kind.Open = Some (due.PutTerm ∷ due.OneClose ∷ due.BracketTail ∷ [])
-defined_form two k = after_name due.PutTail (is_name two k)
+defined_form two k = form_if (is_name two k) (due.PutArguments ∷ due.Apply ∷ due.PutTail ∷ []) None
 
 put-form : (two : Bool) (k : TokenKind) → (forms two).takes due.PutTerm k ≡ put_form two k
 put-form false = elim [ kind.Rules ↦ refl | _ ↦ refl ]
@@ -202,73 +197,6 @@ put-form true = elim [ kind.Rules ↦ refl | _ ↦ refl ]
 defined-form : (two : Bool) (k : TokenKind) → (forms two).takes due.DefinedTerm k ≡ defined_form two k
 defined-form false = elim [ kind.Rules ↦ refl | _ ↦ refl ]
 defined-form true = elim [ kind.Rules ↦ refl | _ ↦ refl ]
-
--- single tokens
-abbrev is_open : TokenKind → Bool
-is_open kind.Open = true
-is_open _ = false
-
-abbrev is_close : TokenKind → Bool
-is_close kind.Close = true
-is_close _ = false
-
-abbrev is_greater : TokenKind → Bool
-is_greater kind.Greater = true
-is_greater _ = false
-
-abbrev is_comma : TokenKind → Bool
-is_comma kind.Comma = true
-is_comma _ = false
-
-abbrev is_dot : TokenKind → Bool
-is_dot kind.Dot = true
-is_dot _ = false
-
-abbrev is_equals : TokenKind → Bool
-is_equals kind.Equals = true
-is_equals _ = false
-
-abbrev is_where : TokenKind → Bool
-is_where kind.Where = true
-is_where _ = false
-
-abbrev is_variable : TokenKind → Bool
-is_variable kind.Variable = true
-is_variable kind.Placed = true
-is_variable _ = false
-
-arguments-form : (two : Bool) (k : TokenKind) → (forms two).takes due.PutArguments k ≡ (if is_open k then Some (due.PutTerm ∷ due.PutRow ∷ due.OneClose ∷ []) else None)
-arguments-form two = elim [ kind.Rules ↦ refl | _ ↦ refl ]
-
-row-form : (two : Bool) (k : TokenKind) → (forms two).takes due.PutRow k ≡ (if is_comma k then Some (due.PutTerm ∷ due.PutRow ∷ []) else None)
-row-form two = elim [ kind.Rules ↦ refl | _ ↦ refl ]
-
-tail-form : (two : Bool) (k : TokenKind) → (forms two).takes due.PutTail k ≡ (if is_dot k then Some (due.PutTerm ∷ due.Pair ∷ []) else None)
-tail-form two = elim [ kind.Rules ↦ refl | _ ↦ refl ]
-
-bracket-form : (two : Bool) (k : TokenKind) → (forms two).takes due.BracketTail k ≡ (if is_dot k then Some (due.PutTerm ∷ due.Pair ∷ []) else None)
-bracket-form two = elim [ kind.Rules ↦ refl | _ ↦ refl ]
-
-definitions-form : (two : Bool) (k : TokenKind) → (forms two).takes due.Definitions k ≡ (if is_where k then Some (due.Definition ∷ due.Define ∷ due.MoreDefinitions ∷ []) else None)
-definitions-form two = elim [ kind.Rules ↦ refl | _ ↦ refl ]
-
-more-form : (two : Bool) (k : TokenKind) → (forms two).takes due.MoreDefinitions k ≡ (if is_comma k then Some (due.Definition ∷ due.Define ∷ due.MoreDefinitions ∷ []) else None)
-more-form two = elim [ kind.Rules ↦ refl | _ ↦ refl ]
-
-definition-form : (two : Bool) (k : TokenKind) → (forms two).takes due.Definition k ≡ (if is_variable k then Some (due.OneEquals ∷ due.DefinedTerm ∷ []) else None)
-definition-form two = elim [ kind.Rules ↦ refl | _ ↦ refl ]
-
-close-form : (two : Bool) (k : TokenKind) → (forms two).takes due.OneClose k ≡ (if is_close k then Some [] else None)
-close-form two = elim [ kind.Rules ↦ refl | _ ↦ refl ]
-
-greater-form : (two : Bool) (k : TokenKind) → (forms two).takes due.OneGreater k ≡ (if is_greater k then Some [] else None)
-greater-form two = elim [ kind.Rules ↦ refl | _ ↦ refl ]
-
-equals-form : (two : Bool) (k : TokenKind) → (forms two).takes due.OneEquals k ≡ (if is_equals k then Some [] else None)
-equals-form two = elim [ kind.Rules ↦ refl | _ ↦ refl ]
-
-dot-form : (two : Bool) (k : TokenKind) → (forms two).takes due.OneDot k ≡ (if is_dot k then Some [] else None)
-dot-form two = elim [ kind.Rules ↦ refl | _ ↦ refl ]
 
 -- all of these are symbols of a tree
 abbrev all_of_tree : List FormSymbol → Bool
@@ -302,9 +230,12 @@ some-same x y e = cc
 good-as : (s : FormSymbol) (o : Option TreeStep) (form other : List FormSymbol) → IsGood s o form → ◌≡◌ {A = Option (List FormSymbol)} (Some form) (Some other) → IsGood s o other
 good-as s o form other good e = subst (λ (f : List FormSymbol). IsGood s o f) (some-same form other e) good
 
-good-if : (b : Bool) (s : FormSymbol) (o : Option TreeStep) (form other : List FormSymbol) → IsGood s o form → (if b then Some form else None) ≡ Some other → IsGood s o other
-good-if true s o form other good e = good-as s o form other good e
-good-if false s o form other good e = absurd cc
+good-if : (b : Bool) (s : FormSymbol) (o : Option TreeStep) (form other : List FormSymbol) (later : Option (List FormSymbol)) → IsGood s o form → (later ≡ Some other → IsGood s o other) → form_if b form later ≡ Some other → IsGood s o other
+good-if true s o form other later good more e = good-as s o form other good e
+good-if false s o form other later good more e = more e
+
+good-alone : (b : Bool) (s : FormSymbol) (o : Option TreeStep) (form other : List FormSymbol) → IsGood s o form → form_if b form None ≡ Some other → IsGood s o other
+good-alone b s o form other good e = good-if b s o form other None good (λ f. absurd (let g : ◌≡◌ {A = Option (List FormSymbol)} None (Some other) = f in cc)) e
 
 name-good : (s : FormSymbol) (x : NameId) → effect s ≡ effect due.PutTerm → IsGood s (Some (Open (head.Name x))) (due.PutArguments ∷ due.Apply ∷ due.PutTail ∷ [])
 name-good s x e = record {
@@ -345,31 +276,23 @@ defined-good x = record {
       same-left k (length w.terms + 1) (min (n - 1 + 1) (n + 1)) w.heads (omega (arith, length-append w.terms));
 }
 
-name-after : (b : Bool) (s : FormSymbol) (x : NameId) (other : List FormSymbol) → effect s ≡ effect due.PutTerm → after_name due.PutTail b ≡ Some other → IsGood s (Some (Open (head.Name x))) other
-name-after true s x other e f = good-as s (Some (Open (head.Name x))) (due.PutArguments ∷ due.Apply ∷ due.PutTail ∷ []) other (name-good s x e) f
-name-after false s x other e f = absurd cc
-
-text-after : (b : Bool) (s : FormSymbol) (l : Label) (other : List FormSymbol) → effect s ≡ effect due.PutTerm → after_text due.PutTail b ≡ Some other → IsGood s (Some (Leaf l)) other
-text-after true s l other e f = good-as s (Some (Leaf l)) (due.PutTail ∷ []) other (leaf-good s l e) f
-text-after false s l other e f = absurd cc
-
 put-good : (two : Bool) (k : TokenKind) (t : ValuedToken) (form : List FormSymbol) → put_form two k ≡ Some form → IsGood due.PutTerm (part_told k t) form
 put-good two kind.Variable t form e = good-as due.PutTerm (Some (Variable t.name)) (due.PutTail ∷ []) form (variable-good t.name) e
 put-good two kind.Placed t form e = good-as due.PutTerm (Some (Variable t.name)) (due.PutTail ∷ []) form (variable-good t.name) e
 put-good two kind.Integer t form e = good-as due.PutTerm (Some (Leaf (label.Int t.number))) (due.PutTail ∷ []) form (leaf-good due.PutTerm (label.Int t.number) refl) e
-put-good two kind.Text t form e = text-after two due.PutTerm (label.Str t.name) form refl e
+put-good two kind.Text t form e = good-alone (two && true) due.PutTerm (Some (Leaf (label.Str t.name))) (due.PutTail ∷ []) form (leaf-good due.PutTerm (label.Str t.name) refl) e
 put-good two kind.Less t form e = good-as due.PutTerm (Some (Open head.Tuple)) (due.PutTerm ∷ due.PutRow ∷ due.OneGreater ∷ due.Apply ∷ due.PutTail ∷ []) form (tuple-good due.PutTerm refl) e
 put-good two kind.Open t form e = good-as due.PutTerm None (due.PutTerm ∷ due.OneClose ∷ due.PutTail ∷ []) form (round-good due.PutTerm due.PutTail refl refl refl) e
-put-good two k t form e = name-after (is_name two k) due.PutTerm t.name form refl e
+put-good two k t form e = good-alone (is_name two k) due.PutTerm (Some (Open (head.Name t.name))) (due.PutArguments ∷ due.Apply ∷ due.PutTail ∷ []) form (name-good due.PutTerm t.name refl) e
 
 defines-good : (two : Bool) (k : TokenKind) (t : ValuedToken) (form : List FormSymbol) → defined_form two k ≡ Some form → IsGood due.DefinedTerm (part_told k t) form
 defines-good two kind.Variable t form e = good-as due.DefinedTerm (Some (Variable t.name)) (due.OneDot ∷ due.PutTerm ∷ due.Pair ∷ []) form (defined-good t.name) e
 defines-good two kind.Placed t form e = good-as due.DefinedTerm (Some (Variable t.name)) (due.OneDot ∷ due.PutTerm ∷ due.Pair ∷ []) form (defined-good t.name) e
 defines-good two kind.Integer t form e = good-as due.DefinedTerm (Some (Leaf (label.Int t.number))) (due.PutTail ∷ []) form (leaf-good due.DefinedTerm (label.Int t.number) refl) e
-defines-good two kind.Text t form e = text-after two due.DefinedTerm (label.Str t.name) form refl e
+defines-good two kind.Text t form e = good-alone (two && true) due.DefinedTerm (Some (Leaf (label.Str t.name))) (due.PutTail ∷ []) form (leaf-good due.DefinedTerm (label.Str t.name) refl) e
 defines-good two kind.Less t form e = good-as due.DefinedTerm (Some (Open head.Tuple)) (due.PutTerm ∷ due.PutRow ∷ due.OneGreater ∷ due.Apply ∷ due.PutTail ∷ []) form (tuple-good due.DefinedTerm refl) e
 defines-good two kind.Open t form e = good-as due.DefinedTerm None (due.PutTerm ∷ due.OneClose ∷ due.BracketTail ∷ []) form (round-good due.DefinedTerm due.BracketTail refl refl refl) e
-defines-good two k t form e = name-after (is_name two k) due.DefinedTerm t.name form refl e
+defines-good two k t form e = good-alone (is_name two k) due.DefinedTerm (Some (Open (head.Name t.name))) (due.PutArguments ∷ due.Apply ∷ due.PutTail ∷ []) form (name-good due.DefinedTerm t.name refl) e
 
 -- a dot after a first kid
 dot-good : (s : FormSymbol) → effect s ≡ effect due.PutTail → IsGood s (Some (Open head.Dot)) (due.PutTerm ∷ due.Pair ∷ [])
@@ -404,29 +327,40 @@ sign-good s e = record { tree = refl; left = λ k w. subst (λ (f : Counted → 
 one-dot-good : IsGood due.OneDot (Some (Open head.Dot)) []
 one-dot-good = record { tree = refl; left = λ k w. omega arith }
 
--- no token begins what has none
-none-good : (s : FormSymbol) (o : Option TreeStep) (form : List FormSymbol) → ◌≡◌ {A = Option (List FormSymbol)} None (Some form) → IsGood s o form
-none-good s o form e = absurd cc
+-- by the rows of the table
+one-row : (two : Bool) (s : FormSymbol) (k : TokenKind) (o : Option TreeStep) (r : Trigger × List FormSymbol) (form : List FormSymbol) → rows_of s ≡ r ∷ [] → IsGood s o r.1 → (forms two).takes s k ≡ Some form → IsGood s o form
+one-row two s k o r form rows good e =
+    good-alone (begins two r.0 k) s o r.1 form good (sym (ap (λ (l : RowList Trigger FormSymbol). first_row (λ tr. begins two tr k) l) rows) ∙ e)
+
+two-rows : (two : Bool) (s : FormSymbol) (k : TokenKind) (o : Option TreeStep) (q r : Trigger × List FormSymbol) (form : List FormSymbol) → rows_of s ≡ q ∷ r ∷ [] → IsGood s o q.1 → IsGood s o r.1 → (forms two).takes s k ≡ Some form → IsGood s o form
+two-rows two s k o q r form rows first second e =
+    good-if (begins two q.0 k) s o q.1 form (form_if (begins two r.0 k) r.1 None) first (λ f. good-alone (begins two r.0 k) s o r.1 form second f)
+    (sym (ap (λ (l : RowList Trigger FormSymbol). first_row (λ tr. begins two tr k) l) rows) ∙ e)
+
+no-row : (two : Bool) (s : FormSymbol) (k : TokenKind) (o : Option TreeStep) (form : List FormSymbol) → rows_of s ≡ [] → (forms two).takes s k ≡ Some form → IsGood s o form
+no-row two s k o form rows e =
+    absurd (let g : ◌≡◌ {A = Option (List FormSymbol)} None (Some form) = sym (ap (λ (l : RowList Trigger FormSymbol). first_row (λ tr. begins two tr k) l) rows) ∙ e in cc)
 
 taken-good : (two : Bool) (s : FormSymbol) (t : ValuedToken) (form : List FormSymbol) → is_of_tree s ≡ true → (forms two).takes s t.kind ≡ Some form → IsGood s (token_told s t) form
 taken-good two due.PutTerm t form is e = put-good two t.kind t form (sym (put-form two t.kind) ∙ e)
 taken-good two due.DefinedTerm t form is e = defines-good two t.kind t form (sym (defined-form two t.kind) ∙ e)
 taken-good two due.PutArguments t form is e =
-    good-if (is_open t.kind) due.PutArguments None (due.PutTerm ∷ due.PutRow ∷ due.OneClose ∷ []) form (argument-good due.PutArguments (due.PutTerm ∷ due.PutRow ∷ due.OneClose ∷ []) refl refl (λ k c. omega arith)) (sym (arguments-form two t.kind) ∙ e)
+    one-row two due.PutArguments t.kind None (trigger.Is kind.Open, due.PutTerm ∷ due.PutRow ∷ due.OneClose ∷ []) form refl (argument-good due.PutArguments (due.PutTerm ∷ due.PutRow ∷ due.OneClose ∷ []) refl refl (λ k c. omega arith)) e
 taken-good two due.PutRow t form is e =
-    good-if (is_comma t.kind) due.PutRow None (due.PutTerm ∷ due.PutRow ∷ []) form (argument-good due.PutRow (due.PutTerm ∷ due.PutRow ∷ []) refl refl (λ k c. omega arith)) (sym (row-form two t.kind) ∙ e)
-taken-good two due.PutTail t form is e = good-if (is_dot t.kind) due.PutTail (Some (Open head.Dot)) (due.PutTerm ∷ due.Pair ∷ []) form (dot-good due.PutTail refl) (sym (tail-form two t.kind) ∙ e)
-taken-good two due.BracketTail t form is e = good-if (is_dot t.kind) due.BracketTail (Some (Open head.Dot)) (due.PutTerm ∷ due.Pair ∷ []) form (dot-good due.BracketTail refl) (sym (bracket-form two t.kind) ∙ e)
-taken-good two due.Definitions t form is e = good-if (is_where t.kind) due.Definitions None (due.Definition ∷ due.Define ∷ due.MoreDefinitions ∷ []) form (where-good due.Definitions refl) (sym (definitions-form two t.kind) ∙ e)
-taken-good two due.MoreDefinitions t form is e = good-if (is_comma t.kind) due.MoreDefinitions None (due.Definition ∷ due.Define ∷ due.MoreDefinitions ∷ []) form (where-good due.MoreDefinitions refl) (sym (more-form two t.kind) ∙ e)
-taken-good two due.Definition t form is e = good-if (is_variable t.kind) due.Definition (Some (Equate t.name)) (due.OneEquals ∷ due.DefinedTerm ∷ []) form (definition-good t.name) (sym (definition-form two t.kind) ∙ e)
-taken-good two due.OneClose t form is e = good-if (is_close t.kind) due.OneClose None [] form (sign-good due.OneClose refl) (sym (close-form two t.kind) ∙ e)
-taken-good two due.OneGreater t form is e = good-if (is_greater t.kind) due.OneGreater None [] form (sign-good due.OneGreater refl) (sym (greater-form two t.kind) ∙ e)
-taken-good two due.OneEquals t form is e = good-if (is_equals t.kind) due.OneEquals None [] form (sign-good due.OneEquals refl) (sym (equals-form two t.kind) ∙ e)
-taken-good two due.OneDot t form is e = good-if (is_dot t.kind) due.OneDot (Some (Open head.Dot)) [] form one-dot-good (sym (dot-form two t.kind) ∙ e)
-taken-good two due.Apply t form is e = none-good due.Apply None form e
-taken-good two due.Pair t form is e = none-good due.Pair None form e
-taken-good two due.Define t form is e = none-good due.Define None form e
+    one-row two due.PutRow t.kind None (trigger.Is kind.Comma, due.PutTerm ∷ due.PutRow ∷ []) form refl (argument-good due.PutRow (due.PutTerm ∷ due.PutRow ∷ []) refl refl (λ k c. omega arith)) e
+taken-good two due.PutTail t form is e = one-row two due.PutTail t.kind (Some (Open head.Dot)) (trigger.Is kind.Dot, due.PutTerm ∷ due.Pair ∷ []) form refl (dot-good due.PutTail refl) e
+taken-good two due.BracketTail t form is e = one-row two due.BracketTail t.kind (Some (Open head.Dot)) (trigger.Is kind.Dot, due.PutTerm ∷ due.Pair ∷ []) form refl (dot-good due.BracketTail refl) e
+taken-good two due.Definitions t form is e = one-row two due.Definitions t.kind None (trigger.Is kind.Where, due.Definition ∷ due.Define ∷ due.MoreDefinitions ∷ []) form refl (where-good due.Definitions refl) e
+taken-good two due.MoreDefinitions t form is e = one-row two due.MoreDefinitions t.kind None (trigger.Is kind.Comma, due.Definition ∷ due.Define ∷ due.MoreDefinitions ∷ []) form refl (where-good due.MoreDefinitions refl) e
+taken-good two due.Definition t form is e =
+    two-rows two due.Definition t.kind (Some (Equate t.name)) (trigger.Is kind.Variable, due.OneEquals ∷ due.DefinedTerm ∷ []) (trigger.Is kind.Placed, due.OneEquals ∷ due.DefinedTerm ∷ []) form refl (definition-good t.name) (definition-good t.name) e
+taken-good two due.OneClose t form is e = one-row two due.OneClose t.kind None (trigger.Is kind.Close, []) form refl (sign-good due.OneClose refl) e
+taken-good two due.OneGreater t form is e = one-row two due.OneGreater t.kind None (trigger.Is kind.Greater, []) form refl (sign-good due.OneGreater refl) e
+taken-good two due.OneEquals t form is e = one-row two due.OneEquals t.kind None (trigger.Is kind.Equals, []) form refl (sign-good due.OneEquals refl) e
+taken-good two due.OneDot t form is e = one-row two due.OneDot t.kind (Some (Open head.Dot)) (trigger.Is kind.Dot, []) form refl one-dot-good e
+taken-good two due.Apply t form is e = no-row two due.Apply t.kind None form refl e
+taken-good two due.Pair t form is e = no-row two due.Pair t.kind None form refl e
+taken-good two due.Define t form is e = no-row two due.Define t.kind None form refl e
 taken-good two _ t form is e = absurd cc
 
 -- what is written by actions

@@ -21,7 +21,7 @@ use mars_clauses::{InputCounts, OverLimit};
 use mars_forms::{Lexeme, parse_input_one, parse_input_two};
 use mars_grammar::{Both, Refusal, Which};
 use mars_script::Input;
-use mars_scripts::ScriptMaker;
+use mars_scripts::{ScriptMaker, inputs_are_small, inputs_are_well_formed};
 use mars_tokens::{Tokens, has_version_two};
 use mars_tree::Names;
 use std::alloc::Global;
@@ -97,6 +97,8 @@ pub fn read_input(alloc: Global, bytes: &[u8]) -> Result<Input, ReadError>
     ensures names { IfOk result (λ input. KeepsNames built_in_names input.names) }
     ensures refused { IfErr result (IsNoInput bytes.now) }
 {
+    inputs_are_well_formed();
+    inputs_are_small();
     let two = has_version_two(bytes);
     let tokens = read_tokens(alloc, bytes, two)?;
     let mut names = Names::new(alloc);

@@ -4,7 +4,7 @@ use Rattle.mars_graphs.specs.Systems.{IsSolution}
 use Rattle.mars_graphs.specs.Making.{made_graph, made_root}
 use Rattle.mars_reader.specs.Spellings.{spellings_from, with_texts}
 use Rattle.mars_reader.specs.ReadTree.{system_told}
-use Rattle.mars_reader.proofs.Trees.{names-read, solution-read}
+use Rattle.mars_reader.proofs.TreesMade.{names-read, solution-read}
 use Rattle.mars_reader.proofs.reading.read_tree.Goals as goal
 
 pub returns-clause-read : goal.returns-clause-read

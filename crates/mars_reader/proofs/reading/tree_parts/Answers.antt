@@ -8,7 +8,7 @@ use Rattle.mars_reader.specs.Refused.{IsRefusedAs, either_limit, text_error}
 use Rattle.mars_reader.specs.ReadTree.{TreeValue, tree_building}
 use Rattle.mars_clauses.specs.Limits.{nothing_counted}
 use Rattle.mars_reader.proofs.Refusals.{machine-refuses}
-use Rattle.mars_reader.proofs.Trees.{machine-reads, begins-parts}
+use Rattle.mars_reader.proofs.TreesMade.{machine-reads, begins-parts}
 use Rattle.mars_reader.proofs.reading.tree_parts.Goals as goal
 
 pub returns-in-Err-clause-refused : goal.returns-in-Err-clause-refused

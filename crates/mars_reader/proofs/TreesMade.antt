@@ -17,7 +17,7 @@ use Rattle.mars_scripts.specs.declared.trees.TreeMaker.{TreeMaker}
 use Rattle.mars_scripts.specs.Trees.{tree_making, no_tree, steps_told}
 use Rattle.mars_scripts.proofs.WellFormedLemmas.{makes-told}
 use Rattle.mars_reader.specs.ReadTree.{TreeValue, IsTreeText, system_told}
-use Rattle.mars_reader.proofs.Reads.{value-made, few-told}
+use Rattle.mars_reader.proofs.Readings.{value-made, few-told}
 use Rattle.mars_reader.proofs.Counting.{steps-within}
 use Rattle.mars_reader.proofs.TreeTerms.{terms-left}
 
@@ -46,5 +46,10 @@ module _ (bytes : List ℕ) (old : List (List ℕ)) (w : TreeValue) (r : IsTreeT
   pub small-read : length (made_graph w.1.1.graph) ≤ length bytes
   small-read =
       let steps = steps_told (events_told (spellings_from bytes old) r.events) in
-      omega (arith, ap (λ (m : Making). length (made_graph m)) graph-read, made-small steps term-read, steps-within (events_told (spellings_from bytes old) r.events),
-          few-told true TREE.now (both counting tree_making) bytes old (nothing_counted true, no_tree) w r)
+      omega (
+        arith,
+        ap (λ (m : Making). length (made_graph m)) graph-read,
+        made-small steps term-read,
+        steps-within (events_told (spellings_from bytes old) r.events),
+        few-told true TREE.now (both counting tree_making) bytes old (nothing_counted true, no_tree) w r,
+      )
