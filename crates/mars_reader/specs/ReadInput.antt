@@ -36,6 +36,16 @@ input_begins bytes = (spellings_from bytes built_in_names, (nothing_counted fals
 abbrev pub IsInputText : Bool → List ℕ → InputValue → Type 0
 IsInputText two bytes w = IsReadAs two INPUT.now input_building (input_begins bytes) bytes w
 
+-- the text is refused so, as an input of version 2, or of version 1
+abbrev pub IsNoInputText : Bool → List ℕ → ReadError → Type 0
+IsNoInputText two bytes e = IsRefusedAs two INPUT.now input_building (input_begins bytes) bytes either_limit e
+
+-- the input that a text says as one of version 2, or of version 1
+pub record IsInputOf (two : Bool) (bytes : List ℕ) (input : Input) : Type 0 where
+  pub value : InputValue
+  pub read : IsInputText two bytes value
+  pub input_is : input ≡ input_told (all_names value.0) value.1.1
+
 -- A text of an input, and the input that it says: that of the text's version.
 pub record IsReadInput (bytes : List ℕ) (input : Input) : Type 0 where
   pub two : Bool
@@ -48,7 +58,7 @@ pub record IsReadInput (bytes : List ℕ) (input : Input) : Type 0 where
 pub record IsNoInput (bytes : List ℕ) (e : ReadError) : Type 0 where
   pub two : Bool
   pub version : IsOfVersion two bytes
-  pub refused : IsRefusedAs two INPUT.now input_building (input_begins bytes) bytes either_limit e
+  pub refused : IsNoInputText two bytes e
 
 -- the code's parts of what is made
 pub record HasInputParts (two : Bool) (bytes : List ℕ) (parts : InputParts) : Type 0 where

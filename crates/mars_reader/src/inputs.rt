@@ -9,9 +9,9 @@ ghost use Rattle.mars_scripts.specs.WellFormed.{IsWellFormedInput};
 ghost use Rattle.mars_scripts.specs.Sizes.{nodes_put};
 ghost use Rattle.mars_scripts.specs.Told.{scripts_of};
 ghost use Rattle.mars_reader.specs.Spellings.{spellings_of};
-ghost use Rattle.mars_reader.specs.Refused.{is_too_long, IsRefusedAs, either_limit};
+ghost use Rattle.mars_reader.specs.Refused.{is_too_long};
 ghost use Rattle.mars_reader.specs.ReadTree.{KeepsNames};
-ghost use Rattle.mars_reader.specs.ReadInput.{input_building, input_begins, IsReadInput, IsNoInput, HasInputParts};
+ghost use Rattle.mars_reader.specs.ReadInput.{input_building, IsInputOf, IsReadInput, IsNoInputText, IsNoInput, HasInputParts};
 
 use crate::error::text_error;
 use crate::reading::{add_names, read_tokens};
@@ -66,7 +66,7 @@ fn input_parts(
     requires short { is_too_long bytes.now ≡ false }
     requires tokens { IsTokenList two bytes.now tokens.now.lexemes.items tokens.now.refusal }
     ensures made { IfOk result (HasInputParts two bytes.now) }
-    ensures refused { IfErr result (IsRefusedAs two INPUT.now input_building (input_begins bytes.now) bytes.now either_limit) }
+    ensures refused { IfErr result (IsNoInputText two bytes.now) }
 {
     let mut told = Spelled {
         meanings: TokenMeanings::new(alloc, bytes, known),
@@ -88,6 +88,23 @@ fn input_parts(
     })
 }
 
+/// The input that a text says as one of version 2, or of version 1.
+fn input_of_version(alloc: Global, bytes: &[u8], two: bool) -> Result<Input, ReadError>
+    ensures read { IfOk result (IsInputOf two bytes.now) }
+    ensures well_formed { IfOk result IsWellFormedInput }
+    ensures small { IfOk result (λ input. nodes_put input ≤ length bytes.now) }
+    ensures names { IfOk result (λ input. KeepsNames built_in_names input.names) }
+    ensures refused { IfErr result (IsNoInputText two bytes.now) }
+{
+    inputs_are_well_formed();
+    inputs_are_small();
+    let tokens = read_tokens(alloc, bytes, two)?;
+    let mut names = Names::new(alloc);
+    let parts = input_parts(alloc, bytes, &names, two, &tokens)?;
+    add_names(&mut names, parts.added.as_slice())?;
+    Ok(parts.scripts.finish(names))
+}
+
 /// The input that a text says, of the version that its first token tells. The answers besides: the refusal of the text,
 /// and out of memory. Two passes, linear in the bytes.
 pub fn read_input(alloc: Global, bytes: &[u8]) -> Result<Input, ReadError>
@@ -97,12 +114,6 @@ pub fn read_input(alloc: Global, bytes: &[u8]) -> Result<Input, ReadError>
     ensures names { IfOk result (λ input. KeepsNames built_in_names input.names) }
     ensures refused { IfErr result (IsNoInput bytes.now) }
 {
-    inputs_are_well_formed();
-    inputs_are_small();
     let two = has_version_two(bytes);
-    let tokens = read_tokens(alloc, bytes, two)?;
-    let mut names = Names::new(alloc);
-    let parts = input_parts(alloc, bytes, &names, two, &tokens)?;
-    add_names(&mut names, parts.added.as_slice())?;
-    Ok(parts.scripts.finish(names))
+    input_of_version(alloc, bytes, two)
 }

@@ -1,50 +1,15 @@
-use Rattle.std.proofs.Common.{◌≡◌, ◌≤◌, ◌∙◌, List, ℕ, ap, sym, subst, map, length, false, arith}
-use Rattle.std.proofs.lemmas.List.{length-map}
-use Rattle.mars_tree.specs.Names.{built_in_names}
-use Rattle.mars_grammar.specs.Building.{both}
-use Rattle.mars_forms.specs.declared.table.TheConstants.{INPUT}
-use Rattle.mars_clauses.specs.Limits.{counting, nothing_counted}
+use Rattle.std.proofs.lemmas.Result.{IfOk-weaker, IfErr-weaker}
 use Rattle.mars_script.specs.declared.script.Input.{Input}
-use Rattle.mars_scripts.specs.WellFormed.{IsWellFormedInput}
-use Rattle.mars_scripts.specs.Sizes.{nodes_put}
-use Rattle.mars_scripts.specs.Scripts.{scripts_making, nothing_told, input_told}
-use Rattle.mars_scripts.specs.Told.{scripts_of}
-use Rattle.mars_reader.specs.Spellings.{all_names, with_texts}
-use Rattle.mars_reader.proofs.Readings.{names-read, short-text}
-use Rattle.mars_reader.proofs.InputsMade.{input-well_formed, input-small, few-input_names}
+use Rattle.mars_reader.specs.declared.error.ReadError.{ReadError}
+use Rattle.mars_reader.specs.ReadInput.{IsInputOf, IsReadInput, IsNoInputText, IsNoInput}
 use Rattle.mars_reader.proofs.inputs.read_input.Goals as goal
-
-pub add_names-requires : goal.add_names-requires
-add_names-requires c =
-    let made = c.in_ok-input_parts.ensures.made in
-    few-input_names c.has_version_two.result c.args.bytes.now made.value made.read c.new.result c.new.ensures (c.as_slice.result.now) (λ text. text.items) (ap (map (λ text. text.items)) c.as_slice.ensures.keys ∙ made.added)
-
-pub returns-in_err-add_names-clause-refused : goal.returns-in_err-add_names-clause-refused
-returns-in_err-add_names-clause-refused c = record { two = c.has_version_two.result; version = c.has_version_two.ensures; refused = tt }
 
 pub returns-clause-read : goal.returns-clause-read
 returns-clause-read c =
-    let made = c.in_ok-input_parts.ensures.made in
-    let names = c.in_ok-add_names.ensures.ok ∙ ap (λ texts. with_texts c.new.result (map (λ text. text.items) texts)) c.as_slice.ensures.keys ∙ ap (with_texts c.new.result) made.added
-    ∙ ap (λ known. with_texts known made.value.0.added) c.new.ensures ∙ names-read c.has_version_two.result INPUT.now (both counting scripts_making) c.args.bytes.now built_in_names (nothing_counted false, nothing_told) made.value made.read in
-    record {
-      two = c.has_version_two.result;
-      version = c.has_version_two.ensures;
-      value = made.value;
-      read = made.read;
-      input_is = c.finish.ensures ∙ ap (λ texts. input_told texts (scripts_of c.in_ok-input_parts.parts.scripts)) names ∙ ap (input_told (all_names made.value.0)) made.told;
-    }
+    IfOk-weaker c.input_of_version.result (IsInputOf c.has_version_two.result c.args.bytes.now) (IsReadInput c.args.bytes.now)
+    (λ (input : Input) is. record { two = c.has_version_two.result; version = c.has_version_two.ensures; value = is.value; read = is.read; input_is = is.input_is }) c.input_of_version.ensures.read
 
-pub returns-clause-well_formed : goal.returns-clause-well_formed
-returns-clause-well_formed c =
-    let made = c.in_ok-input_parts.ensures.made in
-    let names = c.add_names.new.names in
-    subst (λ (i : Input). IsWellFormedInput i) (sym (c.finish.ensures ∙ ap (input_told names) made.told))
-    (input-well_formed c.has_version_two.result c.args.bytes.now made.value made.read c.inputs_are_well_formed.ensures (short-text c.args.bytes.now made.read.short) names)
-
-pub returns-clause-small : goal.returns-clause-small
-returns-clause-small c =
-    let made = c.in_ok-input_parts.ensures.made in
-    let names = c.add_names.new.names in
-    subst (λ (i : Input). nodes_put i ≤ length c.args.bytes.now) (sym (c.finish.ensures ∙ ap (input_told names) made.told))
-    (input-small c.has_version_two.result c.args.bytes.now made.value made.read c.inputs_are_small.ensures names)
+pub returns-clause-refused : goal.returns-clause-refused
+returns-clause-refused c =
+    IfErr-weaker c.input_of_version.result (IsNoInputText c.has_version_two.result c.args.bytes.now) (IsNoInput c.args.bytes.now)
+    (λ (e : ReadError) refused. record { two = c.has_version_two.result; version = c.has_version_two.ensures; refused = refused }) c.input_of_version.ensures.refused
