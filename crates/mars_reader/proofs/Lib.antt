@@ -8,3 +8,4 @@ mod TreesMade
 mod InputsMade
 mod GoalsClosed
 mod OneReading
+mod GoalsMade

@@ -70,6 +70,19 @@ fn whole_ask(mut lists: ClauseLists) -> Result<Ask, NoMemory>
     }
 }
 
+/// The ask that a text says.
+fn ask_of(alloc: Global, bytes: &[u8], names: &mut Names) -> Result<Ask, ReadError>
+    requires { length bytes.now + length names.old < 2 ^ 32 - 1 }
+    ensures read { IfOk result (IsReadGoals bytes.now names.old names.new) }
+    ensures refused { IfErr result (IsNoGoalsText bytes.now names.old) }
+    ensures kept { KeepsNames names.old names.new }
+{
+    let tokens = read_tokens(alloc, bytes, true)?;
+    let parts = goals_parts(alloc, bytes, names, &tokens)?;
+    add_names(names, parts.added.as_slice())?;
+    Ok(whole_ask(parts.lists)?)
+}
+
 /// The ask that a text of version 2 says: goals, perhaps with the most answers that are wanted before them. The names that
 /// the text writes come after those that were there. The answers besides: the refusal of the text, and out of memory. Two
 /// passes, linear in the bytes.
@@ -81,11 +94,7 @@ pub fn read_goals(alloc: Global, bytes: &[u8], names: &mut Names) -> Result<Ask,
     ensures kept { KeepsNames names.old names.new }
 {
     clauses_are_well_formed();
-    goals_are_asks();
-    let tokens = read_tokens(alloc, bytes, true)?;
-    let parts = goals_parts(alloc, bytes, names, &tokens)?;
-    add_names(names, parts.added.as_slice())?;
-    Ok(whole_ask(parts.lists)?)
+    ask_of(alloc, bytes, names)
 }
 
 /// Goals never end open: each text of goals says an ask.

@@ -91,13 +91,9 @@ fn input_parts(
 /// The input that a text says as one of version 2, or of version 1.
 fn input_of_version(alloc: Global, bytes: &[u8], two: bool) -> Result<Input, ReadError>
     ensures read { IfOk result (IsInputOf two bytes.now) }
-    ensures well_formed { IfOk result IsWellFormedInput }
-    ensures small { IfOk result (λ input. nodes_put input ≤ length bytes.now) }
     ensures names { IfOk result (λ input. KeepsNames built_in_names input.names) }
     ensures refused { IfErr result (IsNoInputText two bytes.now) }
 {
-    inputs_are_well_formed();
-    inputs_are_small();
     let tokens = read_tokens(alloc, bytes, two)?;
     let mut names = Names::new(alloc);
     let parts = input_parts(alloc, bytes, &names, two, &tokens)?;
@@ -114,6 +110,8 @@ pub fn read_input(alloc: Global, bytes: &[u8]) -> Result<Input, ReadError>
     ensures names { IfOk result (λ input. KeepsNames built_in_names input.names) }
     ensures refused { IfErr result (IsNoInput bytes.now) }
 {
+    inputs_are_well_formed();
+    inputs_are_small();
     let two = has_version_two(bytes);
     input_of_version(alloc, bytes, two)
 }

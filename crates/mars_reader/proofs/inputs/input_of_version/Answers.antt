@@ -1,4 +1,4 @@
-use Rattle.std.proofs.Common.{◌≡◌, ◌≤◌, ◌∙◌, List, ℕ, ap, sym, subst, map, length, false, arith}
+use Rattle.std.proofs.Common.{◌≡◌, ◌≤◌, ◌∙◌, ◌++◌, List, ℕ, ap, sym, subst, map, length, false, arith}
 use Rattle.std.proofs.lemmas.List.{length-map}
 use Rattle.mars_tree.specs.Names.{built_in_names}
 use Rattle.mars_grammar.specs.Building.{both}
@@ -14,39 +14,32 @@ use Rattle.mars_reader.specs.Refused.{either_limit}
 use Rattle.mars_reader.specs.ReadInput.{input_building, input_begins}
 use Rattle.mars_reader.proofs.Refusals.{long-refuses}
 use Rattle.mars_reader.proofs.Readings.{names-read, short-text}
-use Rattle.mars_reader.proofs.InputsMade.{input-well_formed, input-small, few-input_names}
+use Rattle.mars_reader.proofs.InputsMade.{few-input_names}
 use Rattle.mars_reader.proofs.inputs.input_of_version.Goals as goal
 
 pub add_names-requires : goal.add_names-requires
-add_names-requires c = zzz
+add_names-requires c =
+    let made = c.in_ok-parts.ensures.made in
+    few-input_names c.args.two c.args.bytes.now made.value made.read c.new.result c.new.ensures (c.as_slice.result.now) (λ text. text.items) (ap (map (λ text. text.items)) c.as_slice.ensures.keys ∙ made.added)
 
 pub returns-clause-read : goal.returns-clause-read
-returns-clause-read c = zzz
-
-pub returns-clause-well_formed : goal.returns-clause-well_formed
-returns-clause-well_formed c = zzz
-
-pub returns-clause-small : goal.returns-clause-small
-returns-clause-small c = zzz
+returns-clause-read c =
+    let made = c.in_ok-parts.ensures.made in
+    let names = c.in_ok-add_names.ensures.ok ∙ ap (λ texts. with_texts c.new.result (map (λ text. text.items) texts)) c.as_slice.ensures.keys ∙ ap (with_texts c.new.result) made.added
+    ∙ ap (λ known. with_texts known made.value.0.added) c.new.ensures ∙ names-read c.args.two INPUT.now (both counting scripts_making) c.args.bytes.now built_in_names (nothing_counted false, nothing_told) made.value made.read in
+    record {
+      value = made.value;
+      read = made.read;
+      input_is = c.finish.ensures ∙ ap (λ texts. input_told texts (scripts_of c.in_ok-parts.field-0.scripts)) names ∙ ap (input_told (all_names made.value.0)) made.told;
+    }
 
 pub returns-clause-names : goal.returns-clause-names
-returns-clause-names c = zzz
+returns-clause-names c =
+    let kept = c.in_ok-add_names.ensures.kept in
+    (kept.0, ap (λ (i : Input). i.names) c.finish.ensures ∙ kept.1 ∙ ap (λ (old : List (List ℕ)). old ++ kept.0) c.new.ensures)
 
 pub returns-in_err-read_tokens-clause-refused : goal.returns-in_err-read_tokens-clause-refused
-returns-in_err-read_tokens-clause-refused c = zzz
-
-pub returns-in_err-input_parts-clause-refused : goal.returns-in_err-input_parts-clause-refused
-returns-in_err-input_parts-clause-refused c = zzz
+returns-in_err-read_tokens-clause-refused c = long-refuses c.args.two INPUT.now input_building (input_begins c.args.bytes.now) c.args.bytes.now either_limit _ c.in_err-read_tokens.ensures.refused
 
 pub returns-in_err-add_names-clause-refused : goal.returns-in_err-add_names-clause-refused
-returns-in_err-add_names-clause-refused c = zzz
-
-pub input_parts-requires-names : goal.input_parts-requires-names
-input_parts-requires-names c = zzz
-
-pub input_parts-requires-short : goal.input_parts-requires-short
-input_parts-requires-short c = zzz
-
-pub input_parts-requires-tokens : goal.input_parts-requires-tokens
-input_parts-requires-tokens c = zzz
-
+returns-in_err-add_names-clause-refused c = tt
