@@ -5,7 +5,3 @@ mod Counting
 mod Readings
 mod TreeTerms
 mod TreesMade
-mod InputsMade
-mod GoalsClosed
-mod OneReading
-mod GoalsMade
