@@ -1,5 +1,5 @@
 -- The rules and asks that events make are well formed: what holds of a rule or an ask that is being read is kept by each event.
-use Rattle.std.proofs.Common.{◌≡◌, ◌≤◌, ◌<◌, ◌+◌, ◌^◌, ℕ, ℤ, max, List, [], ◌∷◌, ◌++◌, length, reverse, refl, ap, sym, ◌∙◌, subst, arith, append_assoc, append-nil, Option, Some, None, Bool, true, false, if◌then◌else◌, ◌==◌}
+use Rattle.std.proofs.Common.{◌≡◌, ◌≤◌, ◌<◌, ◌+◌, ◌^◌, ℕ, ℤ, max, List, [], ◌∷◌, ◌++◌, length, reverse, refl, ap, sym, ◌∙◌, subst, arith, All, append_assoc, append-nil, Option, Some, None, Bool, true, false, if◌then◌else◌, ◌==◌}
 use Rattle.std.specs.List.{flat_map, AllByRecursion, list_any}
 use Rattle.std.proofs.lemmas.Grind.{flat_map-append}
 use Rattle.std.proofs.lemmas.List.{reverse-append, reverse-reverse, length_push, length-reverse}
@@ -25,7 +25,8 @@ use Rattle.mars_clauses.specs.declared.maker.ValuedToken.{ValuedToken}
 use Rattle.mars_clauses.specs.declared.terms.OpenTerm.{OpenTerm}
 use Rattle.mars_clauses.specs.declared.making.FinishedClause.{FinishedClause}
 use Rattle.mars_clauses.specs.declared.making.FinishedClause.TheVariants as finished_clause
-use Rattle.mars_clauses.specs.Terms.{Unfinished, number_of, vars_with, open_term, begun, with_argument, given_in, with_open, term_made, applied_in, joined_dot, paired_in, head_made, headed_in, with_var, with_kept, with_cut, with_part, is_ask_word, clause_read, clause_said, rule_made, ask_made, finished, finished_in, finished_by}
+use Rattle.mars_clauses.specs.Short.{short_number}
+use Rattle.mars_clauses.specs.Terms.{Unfinished, number_of, vars_with, open_term, begun, with_argument, given, given_in, with_open, term_made, applied_in, joined_dot, paired_in, head_made, headed_in, with_var, with_kept, with_cut, with_part, is_ask_word, clause_read, clause_said, rule_made, ask_made, finished, finished_in, finished_by}
 use Rattle.mars_clauses.specs.Lists.{Clauses, clauses, clauses_from, stored, clauses_event}
 use Rattle.mars_clauses.specs.WellFormed.{MakesWellFormed, AreWellFormed}
 use Rattle.mars_clauses.proofs.PartFacts.{IsFine, fine-more, all-append, all-front, all-back, all-more, vars-known, kept-known, none-below, short-lists, numbered-push, short-of, var-list, int-list, kept-list, text-list, name-list, tuple-list, dot-list}
@@ -65,6 +66,8 @@ record Facts (n : ℕ) (asking : Bool) (vars kept : List NameId) (parts : List T
   pub distinct : AreDistinct vars
   pub numbered : asking ≡ true → NumberedByAppearance 0 (length vars) (vars_of parts)
   pub ruled : asking ≡ false → kept ≡ []
+  pub few_vars : length vars ≤ n
+  pub few_kept : length kept ≤ n
 
 record IsHead (n vars : ℕ) (head : Option Term) : Type 0 where
   pub is : (term : Term) → head ≡ Some term → IsNameTerm term × AllByRecursion (IsFine vars 0 n) (parts_of term)
@@ -84,6 +87,8 @@ facts-raised n asking vars kept parts f = record {
   distinct = f.distinct;
   numbered = f.numbered;
   ruled = f.ruled;
+  few_vars = let l = f.few_vars in omega arith;
+  few_kept = let l = f.few_kept in omega arith;
 }
 
 rows-raised : (n : ℕ) (rows : List OpenTerm) → AreShort n rows → AreShort (n + 1) rows
@@ -112,6 +117,8 @@ facts-insert n asking vars kept front back part f fine e =
       distinct = f.distinct;
       numbered = λ a. subst (λ (l : List ℕ). NumberedByAppearance 0 (length vars) l) (vars-insert front back part e) (f.numbered a);
       ruled = f.ruled;
+      few_vars = more.few_vars;
+      few_kept = more.few_kept;
     }
 
 facts-push : (n : ℕ) (asking : Bool) (vars kept : List NameId) (parts : List Term) (part : Term) → Facts n asking vars kept parts → IsFine (length vars) (length kept) (n + 1) part → number_of_var part ≡ [] →
@@ -237,6 +244,8 @@ var-facts n asking true name vars kept parts e f =
           subst (λ (l : List ℕ). NumberedByAppearance 0 (length vars) l) (sym (flat_map-append number_of_var parts (Var (number_of name vars) ∷ [])))
           (subst (λ (t : ℕ). NumberedByAppearance 0 t (vars_of parts ++ number_of name vars ∷ [])) total (numbered-push 0 (length vars) (vars_of parts) (number_of name vars) (f.numbered a) (omega arith)));
       ruled = f.ruled;
+      few_vars = more.few_vars;
+      few_kept = more.few_kept;
     }
 var-facts n asking false name vars kept parts e f =
     let last : number_of name vars ≡ length vars = unknown-last name vars e in
@@ -251,18 +260,32 @@ var-facts n asking false name vars kept parts e f =
           subst (λ (l : List ℕ). NumberedByAppearance 0 (length (vars ++ name ∷ [])) l) (sym (flat_map-append number_of_var parts (Var (number_of name vars) ∷ [])))
           (subst (λ (t : ℕ). NumberedByAppearance 0 t (vars_of parts ++ number_of name vars ∷ [])) total (numbered-push 0 (length vars) (vars_of parts) (number_of name vars) (f.numbered a) (omega arith)));
       ruled = f.ruled;
+      few_vars = let l = f.few_vars in omega (arith, grown);
+      few_kept = let l = f.few_kept in omega arith;
     }
 
 with-longer : (known : Bool) (name : NameId) (vars : List NameId) → length vars ≤ length (if known then vars else vars ++ name ∷ [])
 with-longer true name vars = omega arith
 with-longer false name vars = omega (arith, length_push vars name)
 
-var-keeps : (n : ℕ) (c : Unfinished) (name : NameId) → Keeps n c → Keeps (n + 1) (with_var name c)
-var-keeps n c name k =
+-- a number that 32 bits hold
+short-same : (n most : ℕ) → n ≤ most → most < 2 ^ 32 → short_number n ≡ n
+short-same n most l few = omega arith
+
+number-within : (name : NameId) (vars : List NameId) (known : Bool) → list_any (λ var. name.0 == var.0) vars ≡ known → number_of name vars ≤ length vars
+number-within name vars true e = let l = known-below name vars e in omega arith
+number-within name vars false e = let l = unknown-last name vars e in omega arith
+
+var-keeps : (n : ℕ) (c : Unfinished) (name : NameId) → n < 2 ^ 32 → Keeps n c → Keeps (n + 1) (with_var name c)
+var-keeps n c name few k =
     let known = list_any (λ (var : NameId). name.0 == var.0) c.vars in
-    given-keeps n c.asking c.most (vars_with name c.vars) c.kept c.head c.goals c.rows (Var (number_of name c.vars))
+    let within = number-within name c.vars known refl in
+    let most = k.facts.few_vars in
+    let same : short_number (number_of name c.vars) ≡ number_of name c.vars = short-same (number_of name c.vars) n (omega arith) few in
+    subst (λ (number : ℕ). Keeps (n + 1) (given (Var number) (record c { vars = vars_with name c.vars }))) (sym same)
+    (given-keeps n c.asking c.most (vars_with name c.vars) c.kept c.head c.goals c.rows (Var (number_of name c.vars))
     (var-facts n c.asking known name c.vars c.kept (parts_with c.goals c.rows) refl k.facts) k.rows
-    (head-raised n (length c.vars) (length (vars_with name c.vars)) c.head (with-longer known name c.vars) k.head)
+    (head-raised n (length c.vars) (length (vars_with name c.vars)) c.head (with-longer known name c.vars) k.head))
 
 -- a kept name
 kept-facts : (n : ℕ) (name : NameId) (vars kept : List NameId) (parts : List Term) → Facts n true vars kept parts → Facts (n + 1) true vars (kept ++ name ∷ []) (parts ++ Kept (length kept) ∷ [])
@@ -275,13 +298,16 @@ kept-facts n name vars kept parts f =
       distinct = f.distinct;
       numbered = λ a. subst (λ (l : List ℕ). NumberedByAppearance 0 (length vars) l) (sym (append-nil (vars_of parts)) ∙ sym (flat_map-append number_of_var parts (Kept (length kept) ∷ []))) (f.numbered a);
       ruled = λ a. cc;
+      few_vars = let l = f.few_vars in omega arith;
+      few_kept = let l = f.few_kept in omega (arith, grown);
     }
 
-kept-keeps : (n : ℕ) (asking : Bool) (most : Option ℕ) (vars kept : List NameId) (head : Option Term) (goals : List Goal) (rows : List OpenTerm) (name : NameId) →
+kept-keeps : (n : ℕ) (asking : Bool) (most : Option ℕ) (vars kept : List NameId) (head : Option Term) (goals : List Goal) (rows : List OpenTerm) (name : NameId) → n < 2 ^ 32 →
     Keeps n (unfinished asking most vars kept head goals rows) → Keeps (n + 1) (with_kept name (unfinished asking most vars kept head goals rows))
-kept-keeps n true most vars kept head goals rows name k =
-    given-keeps n true most vars (kept ++ name ∷ []) head goals rows (Kept (length kept)) (kept-facts n name vars kept (parts_with goals rows) k.facts) k.rows (head-raised n (length vars) (length vars) head (omega arith) k.head)
-kept-keeps n false most vars kept head goals rows name k = raised n (unfinished false most vars kept head goals rows) k
+kept-keeps n true most vars kept head goals rows name few k =
+    subst (λ (number : ℕ). Keeps (n + 1) (given_in rows (Kept number) (unfinished true most vars (kept ++ name ∷ []) head goals rows))) (sym (short-same (length kept) n k.facts.few_kept few))
+    (given-keeps n true most vars (kept ++ name ∷ []) head goals rows (Kept (length kept)) (kept-facts n name vars kept (parts_with goals rows) k.facts) k.rows (head-raised n (length vars) (length vars) head (omega arith) k.head))
+kept-keeps n false most vars kept head goals rows name few k = raised n (unfinished false most vars kept head goals rows) k
 
 -- a head
 headed-keeps : (n : ℕ) (most : Option ℕ) (vars kept : List NameId) (head : Option Term) (goals : List Goal) (rows : List OpenTerm) →
@@ -299,6 +325,8 @@ headed-keeps n most vars kept head goals (row ∷ outer) k =
         distinct = k.facts.distinct;
         numbered = λ a. cc;
         ruled = k.facts.ruled;
+        few_vars = more.facts.few_vars;
+        few_kept = more.facts.few_kept;
       };
       rows = more.rows.1;
       head = head-of row.opening row.terms more.rows.0
@@ -324,31 +352,31 @@ head-keeps n false most vars kept head goals rows k = headed-keeps n most vars k
 -- the beginning
 begun-keeps : (n : ℕ) (asking : Bool) (rows : List OpenTerm) → row_parts rows ≡ [] → AreShort n rows → Keeps n (begun asking rows)
 begun-keeps n asking rows none short = record {
-  facts = subst (λ (l : List Term). Facts n asking [] [] l) (sym none) (record { fine = tt; distinct = λ i j x at other. cc; numbered = λ a. refl; ruled = λ a. refl });
+  facts = subst (λ (l : List Term). Facts n asking [] [] l) (sym none) (record { fine = tt; distinct = λ i j x at other. cc; numbered = λ a. refl; ruled = λ a. refl; few_vars = omega arith; few_kept = omega arith });
   rows = short;
   head = record { is = λ term e. cc };
 }
 
-part-keeps : (n : ℕ) (k : TokenKind) (t : ValuedToken) (c : Unfinished) → Keeps n c → Keeps (n + 1) (with_part k t c)
-part-keeps n kind.Variable t c k = var-keeps n c t.name k
-part-keeps n kind.Integer t c k = int-keeps n c t.number k
-part-keeps n kind.Text t c k = text-keeps n c t.name k
-part-keeps n kind.Less t c k = open-keeps n c None k
-part-keeps n kind.Slash t c k = cut-keeps n c k
-part-keeps n kind.Open t c k = raised n c k
-part-keeps n kind.Hash t c k = raised n c k
-part-keeps n _ t c k = open-keeps n c (Some t.name) k
+part-keeps : (n : ℕ) (k : TokenKind) (t : ValuedToken) (c : Unfinished) → n < 2 ^ 32 → Keeps n c → Keeps (n + 1) (with_part k t c)
+part-keeps n kind.Variable t c few k = var-keeps n c t.name few k
+part-keeps n kind.Integer t c few k = int-keeps n c t.number k
+part-keeps n kind.Text t c few k = text-keeps n c t.name k
+part-keeps n kind.Less t c few k = open-keeps n c None k
+part-keeps n kind.Slash t c few k = cut-keeps n c k
+part-keeps n kind.Open t c few k = raised n c k
+part-keeps n kind.Hash t c few k = raised n c k
+part-keeps n _ t c few k = open-keeps n c (Some t.name) k
 
-read-keeps : (n : ℕ) (s : FormSymbol) (t : ValuedToken) (c : Unfinished) → Keeps n c → Keeps (n + 1) (clause_read s t c)
-read-keeps n due.RuleList t c k = begun-keeps (n + 1) false (open_term (Some t.name) [] ∷ []) refl (omega arith, tt)
-read-keeps n due.Commands t c k = begun-keeps (n + 1) (is_ask_word t.kind) [] refl tt
-read-keeps n due.Goals t c k = part-keeps n t.kind t c k
-read-keeps n due.AskGoals t c k = part-keeps n t.kind t c k
-read-keeps n due.Term t c k = part-keeps n t.kind t c k
-read-keeps n due.AskTerm t c k = part-keeps n t.kind t c k
-read-keeps n due.KeptName t c k = kept-keeps n c.asking c.most c.vars c.kept c.head c.goals c.rows t.name k
-read-keeps n due.AskLimit t c k = let more = raised n c k in record { facts = more.facts; rows = more.rows; head = more.head }
-read-keeps n _ t c k = raised n c k
+read-keeps : (n : ℕ) (s : FormSymbol) (t : ValuedToken) (c : Unfinished) → n < 2 ^ 32 → Keeps n c → Keeps (n + 1) (clause_read s t c)
+read-keeps n due.RuleList t c few k = begun-keeps (n + 1) false (open_term (Some t.name) [] ∷ []) refl (omega arith, tt)
+read-keeps n due.Commands t c few k = begun-keeps (n + 1) (is_ask_word t.kind) [] refl tt
+read-keeps n due.Goals t c few k = part-keeps n t.kind t c few k
+read-keeps n due.AskGoals t c few k = part-keeps n t.kind t c few k
+read-keeps n due.Term t c few k = part-keeps n t.kind t c few k
+read-keeps n due.AskTerm t c few k = part-keeps n t.kind t c few k
+read-keeps n due.KeptName t c few k = kept-keeps n c.asking c.most c.vars c.kept c.head c.goals c.rows t.name few k
+read-keeps n due.AskLimit t c few k = let more = raised n c k in record { facts = more.facts; rows = more.rows; head = more.head }
+read-keeps n _ t c few k = raised n c k
 
 say-keeps : (n : ℕ) (a : FormAction) (c : Unfinished) → Keeps n c → Keeps (n + 1) (clause_said a c)
 say-keeps n action.Apply c k = applied-keeps n c.asking c.most c.vars c.kept c.head c.goals c.rows k
@@ -367,7 +395,8 @@ rule-whole n head c few closed ruled is k =
     let all = all-append P (parts_of head) (parts_of_goals c.goals) top.1 body in
     record {
       head = top.0;
-      vars = vars-known (length c.vars) 0 n (parts_of_rule (rule_made head c)) all;
+      vars = subst (λ (count : ℕ). All (λ number. number < count) (vars_of (parts_of_rule (rule_made head c)))) (sym (short-same (length c.vars) n k.facts.few_vars few))
+          (vars-known (length c.vars) 0 n (parts_of_rule (rule_made head c)) all);
       kept = none-below (kept_of (parts_of_rule (rule_made head c))) (kept-known (length c.vars) 0 n (parts_of_rule (rule_made head c)) all);
       short = short-lists (length c.vars) 0 n few (parts_of_rule (rule_made head c)) all;
     }
@@ -412,7 +441,7 @@ stored-keeps n finished_clause.Neither v w k = record { reading = begun-keeps (n
 
 read-all : (n : ℕ) (s : FormSymbol) (t : ValuedToken) (v : Clauses) → n < 2 ^ 32 → KeepsAll n v → KeepsAll (n + 1) (clauses_event (Read s t) v)
 read-all n due.OneSemicolon t v few k = stored-keeps n (finished v.reading) v (in-whole n v.reading v.reading.rows few refl k.reading) k
-read-all n s t v few k = record { reading = read-keeps n s t v.reading k.reading; rules = k.rules; asks = k.asks }
+read-all n s t v few k = record { reading = read-keeps n s t v.reading few k.reading; rules = k.rules; asks = k.asks }
 
 event-all : (n : ℕ) (e : Event FormSymbol ValuedToken FormAction) (v : Clauses) → n < 2 ^ 32 → KeepsAll n v → KeepsAll (n + 1) (clauses_event e v)
 event-all n (Read s t) v few k = read-all n s t v few k

@@ -1,4 +1,5 @@
 -- Promised: the limits of an input, and what rules and asks its events make.
+pub mod Short
 pub mod Limits
 pub mod Terms
 pub mod Lists

@@ -14,6 +14,7 @@ use Rattle.mars_clauses.specs.declared.counts.TheConstants.{ARITY_LIMIT, RULE_LI
 use Rattle.mars_clauses.specs.declared.limits.InputLimit.{InputLimit}
 use Rattle.mars_clauses.specs.declared.limits.InputLimit.TheVariants as limit
 use Rattle.mars_clauses.specs.declared.limits.OverLimit.{OverLimit}
+use Rattle.mars_clauses.specs.Short.{short_number}
 
 -- a written node: a variable, an integer, a string, a name, the `<` of a tuple, the `.` of a dot, the `#` of a kept name; the name of a head is counted where its rule begins
 abbrev pub is_node : FormSymbol → TokenKind → Bool
@@ -44,7 +45,7 @@ abbrev pub over_if : Bool → InputLimit → ℕ → Option OverLimit
 over_if true l start = Some (record { limit = l; start = start })
 over_if false l start = None
 
--- The limit that a token passes which a symbol takes, by what was counted before it. A head is with_over where its arguments end, and its name is the place.
+-- The limit that a token passes which a symbol takes, by what was counted before it. A head is over where its arguments end, and its name is the place.
 abbrev pub passed : FormSymbol → ValuedToken → InputCounts → Option OverLimit
 passed due.HeadRow t c = over_if (nat_le ARITY_LIMIT c.arguments) limit.Arity t.start
 passed due.Row t c = over_if (nat_le ARITY_LIMIT c.arguments) limit.Arity t.start
@@ -63,14 +64,14 @@ abbrev pub starts_two : TokenKind → Bool
 starts_two kind.RulesTwo = true
 starts_two _ = false
 
--- What is counted after a token that a symbol takes; the name after `session` is the session's.
+-- What is counted after a token that a symbol takes, in 32 bits; the name after `session` is the session's.
 abbrev pub counted : FormSymbol → ValuedToken → InputCounts → InputCounts
 counted due.Input t c = record c { two = starts_two t.kind }
-counted due.RuleList t c = record c { rules = c.rules + 1; head = t; nodes = 1 }
+counted due.RuleList t c = record c { rules = short_number (c.rules + 1); head = t; nodes = 1 }
 counted due.Sessions t c = record c { begun = true; own_commands = 0 }
 counted due.OneName t c = if c.begun then record c { begun = false; sessions = c.sessions ++ t.name ∷ [] } else c
-counted due.Commands t c = record c { commands = c.commands + 1; own_commands = c.own_commands + 1; nodes = 0 }
-counted s t c = if is_node s t.kind then record c { nodes = c.nodes + 1 } else c
+counted due.Commands t c = record c { commands = short_number (c.commands + 1); own_commands = short_number (c.own_commands + 1); nodes = 0 }
+counted s t c = if is_node s t.kind then record c { nodes = short_number (c.nodes + 1) } else c
 
 -- the innermost bracket is the last of those around it, which are listed backwards here
 abbrev pub within : List ℕ → InputCounts → InputCounts
@@ -81,7 +82,7 @@ within (arguments ∷ outer) c = record c { arguments = arguments; outer = rever
 abbrev pub in_brackets : TokenKind → InputCounts → InputCounts
 in_brackets kind.Open c = record c { arguments = 1; outer = c.outer ++ c.arguments ∷ [] }
 in_brackets kind.Less c = record c { arguments = 1; outer = c.outer ++ c.arguments ∷ [] }
-in_brackets kind.Comma c = record c { arguments = c.arguments + 1 }
+in_brackets kind.Comma c = record c { arguments = short_number (c.arguments + 1) }
 in_brackets kind.Close c = within (reverse c.outer) c
 in_brackets kind.Greater c = within (reverse c.outer) c
 in_brackets _ c = c

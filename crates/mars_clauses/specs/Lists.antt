@@ -8,6 +8,7 @@ use Rattle.mars_forms.specs.declared.symbol.FormSymbol.{FormSymbol}
 use Rattle.mars_forms.specs.declared.symbol.FormSymbol.TheVariants as due
 use Rattle.mars_forms.specs.declared.symbol.FormAction.{FormAction}
 use Rattle.mars_clauses.specs.declared.maker.ValuedToken.{ValuedToken}
+use Rattle.mars_clauses.specs.declared.limits.OverLimit.{OverLimit}
 use Rattle.mars_clauses.specs.declared.making.FinishedClause.{FinishedClause}
 use Rattle.mars_clauses.specs.declared.making.FinishedClause.TheVariants as finished_clause
 use Rattle.mars_clauses.specs.declared.lists.ClauseLists.{ClauseLists}
@@ -45,7 +46,7 @@ clauses_event (Read s t) v = clauses_read s t v
 clauses_event (Say a) v = record v { reading = clause_said a v.reading }
 
 -- All rules and asks of a text. They are over no limit by themselves.
-abbrev pub clauses : Build (Event FormSymbol ValuedToken FormAction) Clauses (Unit {0})
+abbrev pub clauses : Build (Event FormSymbol ValuedToken FormAction) Clauses OverLimit
 clauses = record { perform = clauses_event; refuses = λ v. None }
 
 -- the code's lists

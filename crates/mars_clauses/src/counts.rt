@@ -1,7 +1,8 @@
 //! What is counted of an input: rules, sessions, commands, written nodes, arguments.
-ghost use Rattle.std.specs.Prelude.{◌≡◌, ◌+◌, OnOk, IfOk, reverse};
+ghost use Rattle.std.specs.Prelude.{◌≡◌, ◌+◌, OnOk, reverse};
 ghost use Rattle.mars_clauses.specs.declared.counts.InputCounts.{InputCounts};
 ghost use Rattle.mars_clauses.specs.Limits as told;
+ghost use Rattle.mars_clauses.specs.Short.{short_number};
 
 use crate::{InputLimit, Maker, OverLimit, ValuedToken};
 use mars_base::NoMemory;
@@ -50,14 +51,11 @@ pub struct InputCounts {
     pub over: Option<OverLimit>,
 }
 
-/// One more.
-pub(crate) fn one_more(count: u32) -> Result<u32, NoMemory>
-    ensures { IfOk result (λ more. more ≡ count + 1) }
+/// One more; the last number of 32 bits stays as it is.
+fn one_more(count: u32) -> u32
+    ensures { result ≡ short_number (count + 1) }
 {
-    match count.checked_add(1) {
-        Some(more) => Ok(more),
-        None => Err(NoMemory),
-    }
+    count.saturating_add(1)
 }
 
 /// Whether a token that a symbol takes is a written node.
@@ -171,7 +169,7 @@ impl InputCounts {
         match symbol {
             FormSymbol::Input => self.two = starts_two(token.kind),
             FormSymbol::RuleList => {
-                self.rules = one_more(self.rules)?;
+                self.rules = one_more(self.rules);
                 self.head = token;
                 self.nodes = 1;
             }
@@ -186,13 +184,13 @@ impl InputCounts {
                 }
             }
             FormSymbol::Commands => {
-                self.commands = one_more(self.commands)?;
-                self.own_commands = one_more(self.own_commands)?;
+                self.commands = one_more(self.commands);
+                self.own_commands = one_more(self.own_commands);
                 self.nodes = 0;
             }
             _ => {
                 if is_node(symbol, token.kind) {
-                    self.nodes = one_more(self.nodes)?;
+                    self.nodes = one_more(self.nodes);
                 }
             }
         }
@@ -208,7 +206,7 @@ impl InputCounts {
                 self.outer.push(self.arguments)?;
                 self.arguments = 1;
             }
-            TokenKind::Comma => self.arguments = one_more(self.arguments)?,
+            TokenKind::Comma => self.arguments = one_more(self.arguments),
             TokenKind::Close | TokenKind::Greater => self.close(),
             _ => {}
         }

@@ -8,6 +8,7 @@ mod limits;
 mod lists;
 mod maker;
 mod making;
+mod short;
 mod terms;
 mod variables;
 
@@ -20,5 +21,6 @@ pub use limits::{InputLimit, OverLimit};
 pub use lists::ClauseLists;
 pub use maker::{Maker, ValuedToken};
 pub use making::{ClauseMaking, FinishedClause};
+pub use short::short_number;
 pub use terms::OpenTerm;
 pub use variables::VariableList;

@@ -3,7 +3,7 @@ ghost use Rattle.std.specs.Prelude.{◌≡◌, OnOk, None, []};
 ghost use Rattle.mars_clauses.specs.Lists as told;
 ghost use Rattle.mars_clauses.specs.Lists.{Clauses, clauses, clauses_from, lists_of};
 
-use crate::{ClauseMaking, FinishedClause, Maker, ValuedToken};
+use crate::{ClauseMaking, FinishedClause, Maker, OverLimit, ValuedToken};
 use mars_base::NoMemory;
 use mars_forms::{FormAction, FormSymbol};
 use mars_term::{Ask, Rule};
@@ -44,7 +44,7 @@ impl ClauseLists {
 }
 
 impl Maker for ClauseLists {
-    type Limit = ();
+    type Limit = OverLimit;
 
     ghost Value = { Clauses };
 
@@ -63,7 +63,7 @@ impl Maker for ClauseLists {
         self.making.say(action)
     }
 
-    fn refuses(&self) -> Option<()> {
+    fn refuses(&self) -> Option<OverLimit> {
         None
     }
 }

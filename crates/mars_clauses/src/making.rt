@@ -5,8 +5,7 @@ ghost use Rattle.mars_clauses.specs.Terms as told;
 ghost use Rattle.mars_clauses.specs.Made.{clause_of};
 
 use crate::terms::{head_made, pair, term_made};
-use crate::variables::short;
-use crate::{OpenTerm, ValuedToken, VariableList};
+use crate::{OpenTerm, ValuedToken, VariableList, short_number};
 use mars_base::NoMemory;
 use mars_forms::{FormAction, FormSymbol, TokenKind};
 use mars_term::{Ask, Goal, Goals, NameIds, Rule, Term};
@@ -129,7 +128,7 @@ impl ClauseMaking {
         ensures { OnOk result (clause_of self.new ≡ told.with_kept name (clause_of self.old)) }
     {
         if self.asking {
-            let number = short(self.kept.len())?;
+            let number = short_number(self.kept.len());
             self.kept.push(name)?;
             self.give(Term::Kept(number))?;
         }
@@ -235,7 +234,7 @@ fn finished(clause: ClauseMaking) -> Result<FinishedClause, NoMemory>
     }
     match head {
         Some(head) if !asking => {
-            let vars = vars.count()?;
+            let vars = vars.count();
             Ok(FinishedClause::Rule(Rule {
                 head,
                 body: goals,

@@ -1,7 +1,9 @@
 //! The variables of one rule or ask, numbered by first appearance.
 ghost use Rattle.std.specs.Prelude.{◌≡◌, [], length, IfOk, OnOk};
+ghost use Rattle.mars_clauses.specs.Short.{short_number};
 ghost use Rattle.mars_clauses.specs.Terms.{number_of, vars_with};
 
+use crate::short_number;
 use indexmap::IndexSet;
 use mars_base::NoMemory;
 use mars_term::NameIds;
@@ -25,16 +27,6 @@ impl Model for VariableList {
     ghost view = { λ s. s.names.keys };
 }
 
-/// A count in 32 bits.
-pub(crate) fn short(count: usize) -> Result<u32, NoMemory>
-    ensures { IfOk result (λ same. same ≡ count) }
-{
-    match u32::try_from(count) {
-        Ok(same) => Ok(same),
-        Err(_) => Err(NoMemory),
-    }
-}
-
 impl VariableList {
     /// No variable yet. Takes no memory.
     pub fn new(alloc: Global) -> VariableList
@@ -45,20 +37,20 @@ impl VariableList {
         }
     }
 
-    /// The number of a variable, which goes last where it is new. Constant time.
+    /// The number of a variable in 32 bits; it goes last where it is new. Constant time.
     pub fn number(&mut self, name: NameId) -> Result<u32, NoMemory>
-        ensures number { IfOk result (λ number. number ≡ number_of name self.old) }
+        ensures number { IfOk result (λ number. number ≡ short_number (number_of name self.old)) }
         ensures known { OnOk result (self.new ≡ vars_with name self.old) }
     {
         let (place, _) = self.names.insert_full(name)?;
-        short(place)
+        Ok(short_number(place))
     }
 
-    /// How many there are.
-    pub fn count(&self) -> Result<u32, NoMemory>
-        ensures { IfOk result (λ count. count ≡ length self.now) }
+    /// How many there are, in 32 bits.
+    pub fn count(&self) -> u32
+        ensures { result ≡ short_number (length self.now) }
     {
-        short(self.names.len())
+        short_number(self.names.len())
     }
 
     /// The names of the variables, in order. Linear in them.

@@ -6,15 +6,15 @@ use Rattle.mars_tree.specs.declared.label.NameId.{NameId}
 use Rattle.mars_tree.specs.Graph.{label_of}
 use Rattle.mars_graphs.specs.declared.maker.Head.{Head}
 use Rattle.mars_graphs.specs.Nodes.{Nodes, leaf_of_variable, nodes_with_variable, tied}
-use Rattle.mars_graphs.specs.Steps.{TreeStep, Variable, Leaf, Open, Close, Equate, Define, label_over}
-use Rattle.mars_graphs.specs.Making.{Making, nothing_made, made_over, closed_making, defined_making, makes, makes_all, rooted, whole}
+use Rattle.mars_graphs.specs.Steps.{TreeStep, Variable, Leaf, Open, Close, Equate, Define, label_over, no_variable}
+use Rattle.mars_graphs.specs.Making.{Making, nothing_made, made_over, closed_making, defined_making, makes, makes_all, rooted, whole, made_graph}
 use Rattle.mars_graphs.specs.MakingLaws.{token_count, MadeGraphIsSmall}
 use Rattle.mars_graphs.proofs.Building.{nodes_with_variable-new, nodes_with_variable-known}
 use Rattle.mars_graphs.proofs.Telling.{told-count}
 use Rattle.mars_graphs.proofs.Makes.{with-node-longer, tied-nodes-same}
 
 -- nodes and open heads
-abbrev size_of : Making → ℕ
+abbrev pub size_of : Making → ℕ
 size_of m = length m.nodes.nodes + length m.heads
 
 variable-longer : (b : Nodes) (x : NameId) → length (nodes_with_variable b x).nodes ≤ length b.nodes + 1
@@ -36,7 +36,7 @@ defined-size : (m : Making) (o : Option ℕ) → size_of (defined_making m o) �
 defined-size m None = omega arith
 defined-size m (Some last) = omega (arith, ap length (tied-nodes-same m.nodes m.left last (label_of m.nodes.nodes last)).0)
 
-all-size : (steps : List TreeStep) (m : Making) → size_of (makes_all m steps) ≤ size_of m + token_count steps
+pub all-size : (steps : List TreeStep) (m : Making) → size_of (makes_all m steps) ≤ size_of m + token_count steps
 all-size [] m = omega arith
 all-size (Variable x ∷ steps) m = omega (arith, all-size steps (makes m (Variable x)), variable-longer m.nodes x)
 all-size (Leaf l ∷ steps) m = omega (arith, all-size steps (makes m (Leaf l)), with-node-longer m.nodes)
@@ -53,6 +53,14 @@ root-size m None e some = absurd (empty m.terms e some)
     empty : (terms : List ℕ) → slice_get terms 0 ≡ None → 0 < length terms → ⊥
     empty [] e some = omega (arith, some)
     empty (term ∷ terms) e some = cc
+
+-- else one
+whole-size : (m : Making) (o : Option ℕ) → length (rooted m o).0.nodes ≤ length m.nodes.nodes + 1
+whole-size m (Some root) = omega arith
+whole-size m None = variable-longer m.nodes no_variable
+
+pub graph-size : (m : Making) → length (made_graph m) ≤ size_of m + 1
+graph-size m = omega (arith, length-map (whole m).0.nodes (tied (whole m).0.targets), whole-size m (slice_get m.terms 0))
 
 pub made-small : MadeGraphIsSmall
 made-small steps some =

@@ -1,4 +1,7 @@
 mod Told
 mod NameFacts
 mod Refusals
-mod Trees
+mod Counting
+mod Readings
+mod TreeTerms
+mod TreesMade

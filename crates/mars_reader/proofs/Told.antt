@@ -1,6 +1,6 @@
 -- What a maker is told of a text's events, and what becomes of the spellings.
-use Rattle.std.proofs.Common.{◌≡◌, List, [], ◌∷◌, refl, ◌∙◌}
-use Rattle.mars_grammar.specs.FormTable.{Event, Read, Say}
+use Rattle.std.proofs.Common.{◌≡◌, List, [], ◌∷◌, ◌++◌, refl, ap, ◌∙◌}
+use Rattle.mars_grammar.specs.FormTable.{Event, Read, Say, said_events}
 use Rattle.mars_grammar.specs.Building.{Build, performs}
 use Rattle.mars_forms.specs.declared.lexeme.Lexeme.{Lexeme}
 use Rattle.mars_forms.specs.declared.symbol.FormSymbol.{FormSymbol}
@@ -8,7 +8,7 @@ use Rattle.mars_forms.specs.declared.symbol.FormAction.{FormAction}
 use Rattle.mars_clauses.specs.declared.maker.ValuedToken.{ValuedToken}
 use Rattle.mars_reader.specs.declared.spellings.TokenRole.{TokenRole}
 use Rattle.mars_reader.specs.declared.spellings.TokenRole.TheVariants as role
-use Rattle.mars_reader.specs.Spellings.{Spellings, all_names, with_texts, meaning_at, meaning_of, role_of, with_token, with_token_as}
+use Rattle.mars_reader.specs.Spellings.{Spellings, all_names, with_texts, meaning_at, meaning_as, meaning_of, role_of, with_token, with_token_as}
 use Rattle.mars_reader.specs.Spelled.{spelled_out, events_told, spellings_after}
 use Rattle.mars_tokens.specs.Tokens.{spelling_at}
 use Rattle.mars_reader.proofs.NameFacts.{new-with}
@@ -45,3 +45,16 @@ pub new-after : (es : List (Event FormSymbol Lexeme FormAction)) (v : Spellings)
 new-after [] v e = e
 new-after (Read s t ∷ es) v e = new-after es (with_token s t v) (new-as (role_of s t.kind) t v e)
 new-after (Say a ∷ es) v e = new-after es v e
+
+-- actions are told as they are
+pub told-said : (as' : List FormAction) (es : List (Event FormSymbol Lexeme FormAction)) (v : Spellings) → events_told v (said_events as' ++ es) ≡ said_events as' ++ events_told v es
+told-said [] es v = refl
+told-said (a ∷ as') es v = ap (λ (l : List (Event FormSymbol ValuedToken FormAction)). Say a ∷ l) (told-said as' es v)
+
+-- a token's kind stays
+pub same-kind : (r : TokenRole) (t : Lexeme) (v : Spellings) → (meaning_as r t v).kind ≡ t.kind
+same-kind role.Sign t v = refl
+same-kind role.Name t v = refl
+same-kind role.Variable t v = refl
+same-kind role.Integer t v = refl
+same-kind role.Text t v = refl

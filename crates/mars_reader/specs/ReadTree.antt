@@ -54,7 +54,7 @@ pub record IsReadTree (bytes : List ℕ) (old new : List (List ℕ)) (g : List N
   pub root_is : root ≡ made_root value.1.1.graph
   pub solves : IsSolution (system_told (spellings_from bytes old) read.events) g root
 
--- the names that were there stand at their places
+-- the names that were there are at their places
 abbrev pub KeepsNames : List (List ℕ) → List (List ℕ) → Type 0
 KeepsNames old new = (more : List (List ℕ)) × (new ≡ old ++ more)
 

@@ -66,16 +66,16 @@ syntax_error None r length = error.Syntax length
 abbrev pub token_left : List Lexeme → ℕ → Option Lexeme
 token_left tokens left = slice_get tokens (length tokens - left)
 
--- the refusal of a text of so many bytes with this fault: a limit has its own place
-abbrev pub fault_error : {L : Type 0} → (L → OverLimit) → Fault L → List Lexeme → Option TokenRefusal → ℕ → ReadError
-fault_error over (Syntax left) tokens r length = syntax_error (token_left tokens left) r length
-fault_error over (Over l left) tokens r length = limit_error (over l)
-
--- what the machine answers, likewise
+-- the refusal of a text of so many bytes, by what its tokens are refused for: a limit has its own place
 abbrev pub text_error : {L : Type 0} → (L → OverLimit) → Refusal L → List Lexeme → Option TokenRefusal → ℕ → ReadError
 text_error over (refusal.Syntax left) tokens r length = syntax_error (token_left tokens left) r length
 text_error over (refusal.Limit l left) tokens r length = limit_error (over l)
 text_error over refusal.NoMemory tokens r length = error.NoMemory
+
+-- tokens with this fault are refused so
+abbrev pub refusal_at : {L : Type 0} → Fault L → Refusal L
+refusal_at (Syntax left) = refusal.Syntax left
+refusal_at (Over l left) = refusal.Limit l left
 
 -- too many bytes
 abbrev pub is_too_long : List ℕ → Bool
@@ -104,7 +104,7 @@ module _ {V L : Type 0} (two : Bool) (start : List FormSymbol) (B : Build (Event
     pub tokens : IsTokenList two bytes lexemes refusal
     pub fault : Fault L
     pub first : IsFirst (forms two) B start v lexemes fault
-    pub is : e ≡ fault_error over fault lexemes refusal (length bytes)
+    pub is : e ≡ text_error over (refusal_at fault) lexemes refusal (length bytes)
 
   -- the refusal of a text: that of its length goes first
   abbrev pub RefusesBy : Bool → (L → OverLimit) → ReadError → Type 0

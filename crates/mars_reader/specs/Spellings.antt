@@ -1,5 +1,5 @@
 -- What tokens mean: the numbers of their spellings in the names of the text, or in the list of its other variables, and integers.
-use Rattle.std.specs.Prelude.{ℕ, ℤ, pos, List, [], ◌∷◌, ◌++◌, Bool, true, false, ◌&&◌, is_some, map, if◌then◌else◌}
+use Rattle.std.specs.Prelude.{ℕ, ◌-◌, ◌^◌, nat_lt, ℤ, pos, List, [], ◌∷◌, ◌++◌, length, Bool, true, false, ◌&&◌, is_some, map, if◌then◌else◌}
 use Rattle.mars_tree.specs.declared.label.NameId.{NameId}
 use Rattle.mars_tree.specs.Names.{place_of, name_number, with_text, built_in_names}
 use Rattle.mars_forms.specs.declared.lexeme.TokenKind.{TokenKind}
@@ -11,6 +11,7 @@ use Rattle.mars_tokens.specs.Tokens.{spelling_at}
 use Rattle.mars_tokens.specs.Integers.{integer_value, is_integer_text, is_in_range}
 use Rattle.mars_tokens.specs.Strings.{string_meaning}
 use Rattle.mars_clauses.specs.declared.maker.ValuedToken.{ValuedToken}
+use Rattle.mars_clauses.specs.Short.{short_number}
 use Rattle.mars_reader.specs.declared.more_names.MoreNames.{MoreNames}
 use Rattle.mars_reader.specs.declared.spellings.TokenMeanings.{TokenMeanings}
 use Rattle.mars_reader.specs.declared.spellings.TokenRole.{TokenRole}
@@ -40,19 +41,23 @@ abbrev pub with_texts : List (List ℕ) → List (List ℕ) → List (List ℕ)
 with_texts names [] = names
 with_texts names (text ∷ texts) = with_texts (with_text text names) texts
 
+-- likewise with one text, unless the names are as many as there can be
+abbrev pub with_text_if_room : List ℕ → List (List ℕ) → List (List ℕ)
+with_text_if_room text names = if nat_lt (length names) (2 ^ 32 - 1) then with_text text names else names
+
 -- with a name, and with a variable that is no name
 abbrev pub with_name : List ℕ → Spellings → Spellings
 with_name text v = record v { added = added_with text v.known v.added }
 
 abbrev pub with_variable_text : List ℕ → Spellings → Spellings
-with_variable_text text v = record v { vars = with_text text v.vars }
+with_variable_text text v = record v { vars = with_text_if_room text v.vars }
 
--- the number of a name, and of a variable that is no name
+-- the number of a name, and of a variable that is no name, in 32 bits
 abbrev pub name_in : List ℕ → Spellings → NameId
-name_in text v = record { 0 = name_number text (all_names v) }
+name_in text v = record { 0 = short_number (name_number text (all_names v)) }
 
 abbrev pub variable_in : List ℕ → Spellings → NameId
-variable_in text v = record { 0 = name_number text v.vars }
+variable_in text v = record { 0 = short_number (name_number text v.vars) }
 
 -- a word that the symbol takes is a name
 abbrev pub takes_names : FormSymbol → Bool

@@ -1,5 +1,5 @@
-//! The reader of trees.
-ghost use Rattle.std.specs.Prelude.{◌≡◌, ◌<◌, ◌^◌, List, ℕ, length, map, true, false, IfOk, IfErr, OnOk};
+//! The reader of trees, and what it shares with other readers.
+ghost use Rattle.std.specs.Prelude.{◌≡◌, ◌<◌, ◌≤◌, ◌+◌, ◌-◌, ◌^◌, length, map, true, false, IfOk, IfErr, OnOk};
 ghost use Rattle.mars_tokens.specs.Tokens.{IsTokenList};
 ghost use Rattle.mars_reader.specs.declared.error.ReadError.TheVariants as read_error;
 ghost use Rattle.mars_reader.specs.declared.error.What.TheVariants as what;
@@ -20,10 +20,10 @@ use mars_tokens::{Tokens, lex};
 use mars_tree::{Graph, Names};
 use std::alloc::Global;
 
-/// The tokens of a text of version 2 that isn't too long.
-fn read_tokens(alloc: Global, bytes: &[u8]) -> Result<Tokens, ReadError>
+/// The tokens of a text of version 2, or of version 1, that isn't too long.
+pub(crate) fn read_tokens(alloc: Global, bytes: &[u8], two: bool) -> Result<Tokens, ReadError>
     ensures short { OnOk result (is_too_long bytes.now ≡ false) }
-    ensures tokens { IfOk result (λ r. IsTokenList true bytes.now r.lexemes.items r.refusal) }
+    ensures tokens { IfOk result (λ r. IsTokenList two bytes.now r.lexemes.items r.refusal) }
     ensures refused { IfErr result (IsLongRefusal bytes.now) }
 {
     if bytes.len() > TEXT_LIMIT {
@@ -32,7 +32,7 @@ fn read_tokens(alloc: Global, bytes: &[u8]) -> Result<Tokens, ReadError>
             at: TEXT_LIMIT,
         });
     }
-    Ok(lex(alloc, bytes, true)?)
+    Ok(lex(alloc, bytes, two)?)
 }
 
 /// What is made of the text of a tree: the names that it adds, and the maker of its graph.
@@ -72,33 +72,33 @@ fn tree_parts(
     Ok(TreeParts { added, graph })
 }
 
-/// Puts texts behind the names, each that is new.
-fn add_names(names: &mut Names, texts: &[Vec<u8>]) -> Result<(), NoMemory>
+/// Puts texts after the names, each that is new.
+pub(crate) fn add_names(names: &mut Names, texts: &[Vec<u8>]) -> Result<(), NoMemory>
+    requires { length names.old + length texts.now < 2 ^ 32 }
     ensures ok { OnOk result (names.new ≡ with_texts names.old (map (λ text. text.items) texts.now)) }
     ensures kept { KeepsNames names.old names.new }
 {
     for text in texts {
-        if names.len() >= u32::MAX as usize {
-            return Err(NoMemory);
-        }
         names.id(text)?;
     }
     Ok(())
 }
 
-/// The graph and the root of the tree that a text of version 2 says. The names that it writes come after those that were
-/// there. The answers besides: the refusal of the text, and out of memory. One pass, linear in the bytes.
+/// The graph and the root of the tree that a text of version 2 says. The graph has at most as many nodes as the text has bytes.
+/// The names that the text writes come after those that were there. The answers besides: the refusal of the text, and out of memory. One pass, linear in the bytes.
 pub fn read_tree(
     alloc: Global,
     bytes: &[u8],
     names: &mut Names,
 ) -> Result<(Graph, usize), ReadError>
+    requires { length bytes.now + length names.old < 2 ^ 32 - 1 }
     ensures read { IfOk result (λ made. IsReadTree bytes.now names.old names.new made.0 made.1) }
+    ensures small { IfOk result (λ made. length made.0 ≤ length bytes.now) }
     ensures root { IfOk result (λ made. made.1 < length made.0) }
     ensures refused { IfErr result (IsNoTreeText bytes.now names.old) }
     ensures kept { KeepsNames names.old names.new }
 {
-    let tokens = read_tokens(alloc, bytes)?;
+    let tokens = read_tokens(alloc, bytes, true)?;
     let parts = tree_parts(alloc, bytes, names, &tokens)?;
     add_names(names, parts.added.as_slice())?;
     Ok(parts.graph.finish()?)

@@ -1,6 +1,7 @@
 //! What tokens mean, by their spellings and the symbols that take them.
 ghost use Rattle.std.specs.Prelude.{◌≡◌, IfOk, OnOk, []};
-ghost use Rattle.mars_tree.specs.Names.{name_number, with_text, built_in_names};
+ghost use Rattle.mars_tree.specs.Names.{name_number, built_in_names};
+ghost use Rattle.mars_clauses.specs.Short.{short_number};
 ghost use Rattle.mars_reader.specs.Spellings as told;
 ghost use Rattle.mars_reader.specs.Spellings.{spellings_of, spellings_from};
 
@@ -112,15 +113,18 @@ fn integer_or(text: &[u8]) -> i64
     }
 }
 
-/// The number of a spelling, which goes last where it is new.
+/// The number of a spelling in 32 bits; it goes last where it is new, unless there are as many as there can be.
 fn variable_number(vars: &mut Names, text: &[u8]) -> Result<NameId, NoMemory>
-    ensures place { IfOk result (λ id. id.0 ≡ name_number text.now vars.old) }
-    ensures vars { OnOk result (vars.new ≡ with_text text.now vars.old) }
+    ensures place { IfOk result (λ id. id.0 ≡ short_number (name_number text.now vars.old)) }
+    ensures vars { OnOk result (vars.new ≡ told.with_text_if_room text.now vars.old) }
 {
-    if vars.len() >= u32::MAX as usize {
-        return Err(NoMemory);
+    if vars.len() < u32::MAX as usize {
+        return vars.id(text);
     }
-    vars.id(text)
+    match vars.find(text) {
+        Some(id) => Ok(id),
+        None => Ok(NameId(u32::MAX)),
+    }
 }
 
 /// A text, and the numbers of its spellings so far.

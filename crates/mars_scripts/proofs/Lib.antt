@@ -1,1 +1,2 @@
 pub mod WellFormedLemmas
+mod SizeLemmas

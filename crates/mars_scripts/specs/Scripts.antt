@@ -103,7 +103,7 @@ abbrev pub without_tree : Scripts → Scripts
 without_tree v = record v { tree = no_tree }
 
 -- The command that its word began, but for an ask, by its names. In each text it has as many names as its word wants; where it had fewer, earlier
--- names would stand in their place.
+-- names would take their place.
 abbrev pub command_told : TokenKind → Scripts → Option Command
 command_told kind.PutWord v = Some (put_told v)
 command_told kind.KeepWord v = Some (command.Keep v.before v.last)

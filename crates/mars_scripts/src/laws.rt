@@ -1,5 +1,6 @@
 //! Laws of the definitions.
 ghost use Rattle.mars_scripts.specs.WellFormed.{MakesWellFormedInput, MakesTold, TellsTree};
+ghost use Rattle.mars_scripts.specs.Sizes.{MakesSmallInput};
 
 use mars_clauses::clauses_are_well_formed;
 
@@ -18,4 +19,9 @@ pub fn steps_are_told()
 /// Up to the end of a command, its tree is what its events tell.
 pub fn trees_are_told()
     ensures { TellsTree }
+{}
+
+/// The trees that events put have together at most a node a token.
+pub fn inputs_are_small()
+    ensures { MakesSmallInput }
 {}

@@ -1,4 +1,4 @@
--- What stands between the quotes of a string, and what it means.
+-- What is between the quotes of a string, and what it means.
 use Rattle.std.specs.Prelude.{◌≡◌, ℕ, ◌-◌, List, [], ◌∷◌, length, take, drop, Bool, true, false, ◌==◌, if◌then◌else◌}
 use Rattle.mars_tokens.specs.Bytes.{is_plain_byte, is_escaped_byte}
 

@@ -1,5 +1,5 @@
 -- The tokens of a text with their places, up to its end or to the first refusal that looks at tokens alone.
-use Rattle.std.specs.Prelude.{◌≡◌, ◌≢◌, ℕ, ◌+◌, ◌-◌, ◌≤◌, List, [], ◌∷◌, ◌++◌, length, take, drop, Bool, true, false, Option, Some, None}
+use Rattle.std.specs.Prelude.{◌≡◌, ◌≢◌, ℕ, ◌+◌, ◌-◌, List, [], ◌∷◌, ◌++◌, length, take, drop, Bool, true, false, Option, Some, None}
 use Rattle.mars_forms.specs.declared.lexeme.TokenKind.{TokenKind}
 use Rattle.mars_forms.specs.declared.lexeme.TokenKind.TheVariants as kind
 use Rattle.mars_forms.specs.declared.lexeme.Lexeme.{Lexeme}
@@ -70,11 +70,10 @@ abbrev pub begins_two : List Lexeme → Bool
 begins_two [] = false
 begins_two (t ∷ lexemes) = is_rules_two t.kind
 
+-- a text is of version 2, or of version 1: so says its first token, in whichever version the tokens are read
+abbrev pub IsOfVersion : Bool → List ℕ → Type 0
+IsOfVersion two bytes = (either : Bool) (lexemes : List Lexeme) (r : Option TokenRefusal) → IsTokenList either bytes lexemes r → two ≡ begins_two lexemes
+
 -- the bytes of a token
 abbrev pub spelling_at : List ℕ → Lexeme → List ℕ
 spelling_at bytes t = take (t.end - t.start) (drop t.start bytes)
-
--- a token lies within the bytes
-pub record LiesIn (bytes : List ℕ) (t : Lexeme) : Type 0 where
-  pub ordered : t.start ≤ t.end
-  pub inside : t.end ≤ length bytes

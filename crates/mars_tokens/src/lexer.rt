@@ -1,14 +1,10 @@
 //! The tokens of a text, from left to right in one pass.
-ghost use Rattle.std.specs.Prelude.{◌≡◌, ◌&&◌, nat_le, ℕ, ◌<◌, ◌≤◌, ◌^◌, List, ◌++◌, ◌∷◌, [], Bool, true, Option, Some, None, length, take, drop, All, IfOk};
-ghost use Rattle.mars_forms.specs.declared.lexeme.Lexeme.{Lexeme as TheLexeme};
+ghost use Rattle.std.specs.Prelude.{◌≡◌, ◌&&◌, nat_le, ℕ, ◌<◌, ◌^◌, ◌++◌, ◌∷◌, [], true, Some, length, IfOk};
 ghost use Rattle.mars_forms.specs.declared.lexeme.TokenKind.TheVariants as token_kind;
-ghost use Rattle.mars_tokens.specs.declared.pieces.Piece.TheVariants as piece;
 ghost use Rattle.mars_tokens.specs.declared.limits.TheConstants.{TOKEN_LIMIT};
-ghost use Rattle.mars_tokens.specs.declared.lexer.TokenRefusal.{TokenRefusal as TheRefusal};
-ghost use Rattle.mars_tokens.specs.Pieces.{IsPiece};
 ghost use Rattle.mars_tokens.specs.Integers.{is_integer_text};
 ghost use Rattle.mars_tokens.specs.Refusals.{refusal_if, over_limit, depth_after};
-ghost use Rattle.mars_tokens.specs.Tokens.{IsTokenList, OneTokenListEach, SomeTokenListEach, begins_two, is_rules_two, refused_at, spelling_at};
+ghost use Rattle.mars_tokens.specs.Tokens.{IsTokenList, IsOfVersion, OneTokenListEach, SomeTokenListEach, is_rules_two, refused_at, spelling_at};
 
 use crate::bytes::from_place;
 use crate::integers::read_integer;
@@ -149,7 +145,7 @@ pub fn lex(alloc: Global, bytes: &[u8], two: bool) -> Result<Tokens, NoMemory>
 /// and comments that come first.
 pub fn has_version_two(bytes: &[u8]) -> bool
     requires { length bytes.now < 2 ^ 63 }
-    ensures { (two : Bool) (lexemes : List TheLexeme) (r : Option TheRefusal) → IsTokenList two bytes.now lexemes r → result ≡ begins_two lexemes }
+    ensures { IsOfVersion result bytes.now }
 {
     let mut at = 0;
     while at < bytes.len() {

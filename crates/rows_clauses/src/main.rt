@@ -129,7 +129,7 @@ fn put_short(text: &[u8], into: &mut Vec<u8>) -> Result<(), AllocError> {
 /// Appends a refusal, with the number of the token that it is at.
 fn put_refusal(
     alloc: Global,
-    refusal: Refusal<Which<OverLimit, ()>>,
+    refusal: Refusal<Which<OverLimit, OverLimit>>,
     length: usize,
     into: &mut Vec<u8>,
 ) -> Result<(), AllocError> {

@@ -29,6 +29,9 @@ fn answer_tree(alloc: Global, rest: &str, into: &mut Vec<u8>) -> Result<(), Stop
 /// Writes the tree that bytes say.
 fn push_tree_of(alloc: Global, bytes: &[u8], into: &mut Vec<u8>) -> Result<(), Stop> {
     let mut names = Names::new(alloc);
+    if bytes.len() + names.len() >= u32::MAX as usize {
+        return Err(Stop::TooMany);
+    }
     match read_tree(alloc, bytes, &mut names) {
         Ok((graph, root)) => push_read(alloc, &names, &graph, root, into),
         Err(error) => push_refusal(error, into),

@@ -1,8 +1,11 @@
-use Rattle.std.proofs.Common.{◌≡◌, map, drop}
+use Rattle.std.proofs.Common.{◌≡◌, ◌≤◌, ◌+◌, length, map, drop}
 use Rattle.mars_reader.specs.Spellings.{with_texts}
 use Rattle.mars_reader.specs.ReadTree.{KeepsNames}
 use Rattle.mars_reader.proofs.reading.add_names.Given as goal
 
 abbrev pub invariant-loop-text : goal.invariant-loop-text
-invariant-loop-text l =
-    (with_texts l.fn.names (map (λ text. text.items) l.texts) ≡ with_texts l.names (map (λ text. text.items) (drop l.text-index l.texts))) × KeepsNames l.fn.names l.names
+invariant-loop-text l = record {
+  texts : with_texts l.fn.names (map (λ text. text.items) l.texts) ≡ with_texts l.names (map (λ text. text.items) (drop l.text-index l.texts));
+  kept : KeepsNames l.fn.names l.names;
+  few : length l.names ≤ length l.fn.names + l.text-index;
+}

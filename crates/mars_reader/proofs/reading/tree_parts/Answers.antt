@@ -5,10 +5,11 @@ use Rattle.mars_tokens.specs.Tokens.{IsTokenList}
 use Rattle.mars_reader.specs.Spellings.{spellings_of, spellings_from}
 use Rattle.mars_scripts.specs.Trees.{no_tree}
 use Rattle.mars_reader.specs.Refused.{IsRefusedAs, either_limit, text_error}
-use Rattle.mars_reader.specs.ReadTree.{TreeValue, tree_building}
+use Rattle.mars_reader.specs.ReadTree.{TreeValue, tree_building, tree_begins}
 use Rattle.mars_clauses.specs.Limits.{nothing_counted}
 use Rattle.mars_reader.proofs.Refusals.{machine-refuses}
-use Rattle.mars_reader.proofs.Trees.{machine-reads, begins-parts}
+use Rattle.mars_reader.proofs.Readings.{machine-reads}
+use Rattle.mars_reader.proofs.TreesMade.{begins-parts}
 use Rattle.mars_reader.proofs.reading.tree_parts.Goals as goal
 
 pub returns-in-Err-clause-refused : goal.returns-in-Err-clause-refused
@@ -26,7 +27,7 @@ returns-clause-made c =
     let tokens = subst (λ (ts : List Lexeme). IsTokenList true c.args.bytes.now ts c.args.tokens.now.refusal) (sym c.deref.ensures.value) c.requires.tokens in
     record {
       value = (spellings_of c.parse_tree.new.builder.meanings, (c.parse_tree.new.builder.maker.first, c.parse_tree.new.builder.maker.second));
-      read = machine-reads c.args.bytes.now c.args.known.now c.deref.result.now c.args.tokens.now.refusal (spellings_of c.new.result, (c.new-2.result, c.new-3.result))
+      read = machine-reads true TREE.now tree_building c.args.bytes.now c.deref.result.now c.args.tokens.now.refusal (spellings_of c.new.result, (c.new-2.result, c.new-3.result)) (tree_begins c.args.bytes.now c.args.known.now)
           (spellings_of c.parse_tree.new.builder.meanings, (c.parse_tree.new.builder.maker.first, c.parse_tree.new.builder.maker.second)) begins c.requires.short tokens c.in_default.ensures.made c.in_default.ensures.within;
       added = refl;
       graph = refl;

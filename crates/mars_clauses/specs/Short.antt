@@ -1,0 +1,6 @@
+-- Numbers in 32 bits.
+use Rattle.std.specs.Prelude.{ℕ, ◌-◌, ◌^◌, min}
+
+-- a number in 32 bits, of which the last one takes the place of all that are greater
+abbrev pub short_number : ℕ → ℕ
+short_number n = min n (2 ^ 32 - 1)

@@ -1,0 +1,13 @@
+//! Numbers in 32 bits.
+ghost use Rattle.std.specs.Prelude.{◌≡◌};
+ghost use Rattle.mars_clauses.specs.Short.{short_number};
+
+/// A number in 32 bits, of which the last one takes the place of all that are greater.
+pub fn short_number(number: usize) -> u32
+    ensures { result ≡ short_number number }
+{
+    match u32::try_from(number) {
+        Ok(same) => same,
+        Err(_) => u32::MAX,
+    }
+}
