@@ -25,7 +25,7 @@ use Rattle.mars_clauses.specs.declared.maker.ValuedToken.{ValuedToken}
 use Rattle.mars_clauses.specs.declared.terms.OpenTerm.{OpenTerm}
 use Rattle.mars_clauses.specs.declared.making.FinishedClause.{FinishedClause}
 use Rattle.mars_clauses.specs.declared.making.FinishedClause.TheVariants as finished_clause
-use Rattle.mars_clauses.specs.Short.{short_number}
+use Rattle.mars_clauses.specs.Short.{in_32_bits}
 use Rattle.mars_clauses.specs.Terms.{Unfinished, number_of, vars_with, open_term, begun, with_argument, given, given_in, with_open, term_made, applied_in, joined_dot, paired_in, head_made, headed_in, with_var, with_kept, with_cut, with_part, is_ask_word, clause_read, clause_said, rule_made, ask_made, finished, finished_in, finished_by}
 use Rattle.mars_clauses.specs.Lists.{Clauses, clauses, clauses_from, stored, clauses_event}
 use Rattle.mars_clauses.specs.WellFormed.{MakesWellFormed, AreWellFormed}
@@ -269,7 +269,7 @@ with-longer true name vars = omega arith
 with-longer false name vars = omega (arith, length_push vars name)
 
 -- a number that 32 bits hold
-short-same : (n most : ℕ) → n ≤ most → most < 2 ^ 32 → short_number n ≡ n
+short-same : (n most : ℕ) → n ≤ most → most < 2 ^ 32 → in_32_bits n ≡ n
 short-same n most l few = omega arith
 
 number-within : (name : NameId) (vars : List NameId) (known : Bool) → list_any (λ var. name.0 == var.0) vars ≡ known → number_of name vars ≤ length vars
@@ -281,7 +281,7 @@ var-keeps n c name few k =
     let known = list_any (λ (var : NameId). name.0 == var.0) c.vars in
     let within = number-within name c.vars known refl in
     let most = k.facts.few_vars in
-    let same : short_number (number_of name c.vars) ≡ number_of name c.vars = short-same (number_of name c.vars) n (omega arith) few in
+    let same : in_32_bits (number_of name c.vars) ≡ number_of name c.vars = short-same (number_of name c.vars) n (omega arith) few in
     subst (λ (number : ℕ). Keeps (n + 1) (given (Var number) (record c { vars = vars_with name c.vars }))) (sym same)
     (given-keeps n c.asking c.most (vars_with name c.vars) c.kept c.head c.goals c.rows (Var (number_of name c.vars))
     (var-facts n c.asking known name c.vars c.kept (parts_with c.goals c.rows) refl k.facts) k.rows

@@ -2,5 +2,5 @@
 use Rattle.std.specs.Prelude.{ℕ, ◌-◌, ◌^◌, min}
 
 -- a number in 32 bits, of which the last one takes the place of all that are greater
-abbrev pub short_number : ℕ → ℕ
-short_number n = min n (2 ^ 32 - 1)
+abbrev pub in_32_bits : ℕ → ℕ
+in_32_bits n = min n (2 ^ 32 - 1)

@@ -2,7 +2,7 @@
 ghost use Rattle.std.specs.Prelude.{◌≡◌, ◌+◌, OnOk, reverse};
 ghost use Rattle.mars_clauses.specs.declared.counts.InputCounts.{InputCounts};
 ghost use Rattle.mars_clauses.specs.Limits as told;
-ghost use Rattle.mars_clauses.specs.Short.{short_number};
+ghost use Rattle.mars_clauses.specs.Short.{in_32_bits};
 
 use crate::{InputLimit, Maker, OverLimit, ValuedToken};
 use mars_base::NoMemory;
@@ -53,7 +53,7 @@ pub struct InputCounts {
 
 /// One more; the last number of 32 bits stays as it is.
 fn one_more(count: u32) -> u32
-    ensures { result ≡ short_number (count + 1) }
+    ensures { result ≡ in_32_bits (count + 1) }
 {
     count.saturating_add(1)
 }

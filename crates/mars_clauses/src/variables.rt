@@ -1,6 +1,6 @@
 //! The variables of one rule or ask, numbered by first appearance.
 ghost use Rattle.std.specs.Prelude.{◌≡◌, [], length, IfOk, OnOk};
-ghost use Rattle.mars_clauses.specs.Short.{short_number};
+ghost use Rattle.mars_clauses.specs.Short.{in_32_bits};
 ghost use Rattle.mars_clauses.specs.Terms.{number_of, vars_with};
 
 use crate::short_number;
@@ -39,7 +39,7 @@ impl VariableList {
 
     /// The number of a variable in 32 bits; it goes last where it is new. Constant time.
     pub fn number(&mut self, name: NameId) -> Result<u32, NoMemory>
-        ensures number { IfOk result (λ number. number ≡ short_number (number_of name self.old)) }
+        ensures number { IfOk result (λ number. number ≡ in_32_bits (number_of name self.old)) }
         ensures known { OnOk result (self.new ≡ vars_with name self.old) }
     {
         let (place, _) = self.names.insert_full(name)?;
@@ -48,7 +48,7 @@ impl VariableList {
 
     /// How many there are, in 32 bits.
     pub fn count(&self) -> u32
-        ensures { result ≡ short_number (length self.now) }
+        ensures { result ≡ in_32_bits (length self.now) }
     {
         short_number(self.names.len())
     }
