@@ -14,7 +14,7 @@ use Rattle.mars_clauses.specs.declared.counts.TheConstants.{ARITY_LIMIT, RULE_LI
 use Rattle.mars_clauses.specs.declared.limits.InputLimit.{InputLimit}
 use Rattle.mars_clauses.specs.declared.limits.InputLimit.TheVariants as limit
 use Rattle.mars_clauses.specs.declared.limits.OverLimit.{OverLimit}
-use Rattle.mars_clauses.specs.Short.{short_number}
+use Rattle.mars_clauses.specs.Short.{in_32_bits}
 
 -- a written node: a variable, an integer, a string, a name, the `<` of a tuple, the `.` of a dot, the `#` of a kept name; the name of a head is counted where its rule begins
 abbrev pub is_node : FormSymbol → TokenKind → Bool
@@ -67,11 +67,11 @@ starts_two _ = false
 -- What is counted after a token that a symbol takes, in 32 bits; the name after `session` is the session's.
 abbrev pub counted : FormSymbol → ValuedToken → InputCounts → InputCounts
 counted due.Input t c = record c { two = starts_two t.kind }
-counted due.RuleList t c = record c { rules = short_number (c.rules + 1); head = t; nodes = 1 }
+counted due.RuleList t c = record c { rules = in_32_bits (c.rules + 1); head = t; nodes = 1 }
 counted due.Sessions t c = record c { begun = true; own_commands = 0 }
 counted due.OneName t c = if c.begun then record c { begun = false; sessions = c.sessions ++ t.name ∷ [] } else c
-counted due.Commands t c = record c { commands = short_number (c.commands + 1); own_commands = short_number (c.own_commands + 1); nodes = 0 }
-counted s t c = if is_node s t.kind then record c { nodes = short_number (c.nodes + 1) } else c
+counted due.Commands t c = record c { commands = in_32_bits (c.commands + 1); own_commands = in_32_bits (c.own_commands + 1); nodes = 0 }
+counted s t c = if is_node s t.kind then record c { nodes = in_32_bits (c.nodes + 1) } else c
 
 -- the innermost bracket is the last of those around it, which are listed backwards here
 abbrev pub within : List ℕ → InputCounts → InputCounts
@@ -82,7 +82,7 @@ within (arguments ∷ outer) c = record c { arguments = arguments; outer = rever
 abbrev pub in_brackets : TokenKind → InputCounts → InputCounts
 in_brackets kind.Open c = record c { arguments = 1; outer = c.outer ++ c.arguments ∷ [] }
 in_brackets kind.Less c = record c { arguments = 1; outer = c.outer ++ c.arguments ∷ [] }
-in_brackets kind.Comma c = record c { arguments = short_number (c.arguments + 1) }
+in_brackets kind.Comma c = record c { arguments = in_32_bits (c.arguments + 1) }
 in_brackets kind.Close c = within (reverse c.outer) c
 in_brackets kind.Greater c = within (reverse c.outer) c
 in_brackets _ c = c

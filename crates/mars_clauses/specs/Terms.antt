@@ -18,7 +18,7 @@ use Rattle.mars_clauses.specs.declared.maker.ValuedToken.{ValuedToken}
 use Rattle.mars_clauses.specs.declared.terms.OpenTerm.{OpenTerm}
 use Rattle.mars_clauses.specs.declared.making.FinishedClause.{FinishedClause}
 use Rattle.mars_clauses.specs.declared.making.FinishedClause.TheVariants as finished_clause
-use Rattle.mars_clauses.specs.Short.{short_number}
+use Rattle.mars_clauses.specs.Short.{in_32_bits}
 
 -- a variable's number: its place among those so far, or the next one
 abbrev pub number_of : NameId → List NameId → ℕ
@@ -98,11 +98,11 @@ headed_in (row ∷ outer) c = record c { head = head_made row.opening row.terms;
 
 -- a variable, by its number among those of this rule or ask; numbers and counts here are in 32 bits
 abbrev pub with_var : NameId → Unfinished → Unfinished
-with_var name c = given (Var (short_number (number_of name c.vars))) (record c { vars = vars_with name c.vars })
+with_var name c = given (Var (in_32_bits (number_of name c.vars))) (record c { vars = vars_with name c.vars })
 
 -- a kept name has the next number; a rule has none
 abbrev pub with_kept : NameId → Unfinished → Unfinished
-with_kept name c = if c.asking then given (Kept (short_number (length c.kept))) (record c { kept = c.kept ++ name ∷ [] }) else c
+with_kept name c = if c.asking then given (Kept (in_32_bits (length c.kept))) (record c { kept = c.kept ++ name ∷ [] }) else c
 
 -- a cut is a goal
 abbrev pub with_cut : Unfinished → Unfinished
@@ -156,7 +156,7 @@ clause_event (Say a) c = clause_said a c
 
 -- the rule with this head, and the ask, when all is read
 abbrev pub rule_made : Term → Unfinished → Rule
-rule_made head c = record { head = head; body = c.goals; vars = short_number (length c.vars) }
+rule_made head c = record { head = head; body = c.goals; vars = in_32_bits (length c.vars) }
 
 abbrev pub ask_made : Unfinished → Ask
 ask_made c = record { most = c.most; goals = c.goals; vars = c.vars; kept = c.kept }
