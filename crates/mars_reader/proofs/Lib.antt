@@ -5,3 +5,7 @@ mod Counting
 mod Readings
 mod TreeTerms
 mod TreesMade
+mod InputsMade
+mod GoalsClosed
+mod OneReading
+mod GoalsMade

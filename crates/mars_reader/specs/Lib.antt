@@ -3,3 +3,5 @@ pub mod Spellings
 pub mod Spelled
 pub mod Refused
 pub mod ReadTree
+pub mod ReadInput
+pub mod ReadGoals

@@ -2,12 +2,18 @@
 #![tactic(auto)]
 
 mod error;
+mod goals;
+mod inputs;
+mod laws;
 mod more_names;
 mod reading;
 mod spelled;
 mod spellings;
 
 pub use error::{ReadError, TEXT_LIMIT, What};
+pub use goals::{goals_are_asks, read_goals};
+pub use inputs::read_input;
+pub use laws::one_reading;
 pub use more_names::MoreNames;
 pub use reading::read_tree;
 pub use spelled::Spelled;
