@@ -1,4 +1,4 @@
+pub mod Due
 pub mod Numbers
 pub mod OneForm
-pub mod Readying
 pub mod Running

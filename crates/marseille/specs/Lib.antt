@@ -1,5 +1,6 @@
 -- Promised: what the contract of the top call, and those of the calls below it, cite.
-pub mod Ready
+pub mod Built
+pub mod Refusal
 pub mod Run
 pub mod Status
 pub mod Text

@@ -2,8 +2,9 @@
 use Rattle.std.specs.Prelude.{◌≡◌, ◌↔◌, ℕ, ◌<◌, ◌≤◌, List, [], ◌∷◌, ◌++◌, length, slice_get, Some, Contains}
 use Rattle.mars_tree.specs.Graph.{Node, Same}
 use Rattle.mars_tree.specs.declared.label.NameId.{NameId}
-use Rattle.mars_read.specs.declared.first.First.{First}
-use Rattle.mars_read.specs.declared.first.FirstPut.{FirstPut}
+use Rattle.mars_script.specs.declared.script.Command.{Command}
+use Rattle.mars_script.specs.declared.script.Command.TheVariants as command
+use Rattle.mars_script.specs.declared.script.Input.{Input}
 use Rattle.mars_reach.specs.Reach.{ReachesFree, ReachesNoFree}
 use Rattle.mars_canon.specs.Tree.{most_nodes}
 use Rattle.mars_rows.specs.Object.{TableObject, empty_table, intern}
@@ -12,6 +13,7 @@ use Rattle.mars_rows.specs.TreeGraph.{IsTreeGraphOf}
 use Rattle.marseille.specs.declared.run.PutAnswer.{PutAnswer}
 use Rattle.marseille.specs.declared.run.PutAnswer.TheVariants.{NameTaken, NotGround, TooLarge, Kept}
 use Rattle.marseille.specs.declared.run.TheConstants.{ROW_LIMIT}
+use Rattle.marseille.specs.Built.{AreBuilt, commands_run}
 use Rattle.marseille.specs.Text.{text_of}
 
 -- the tree of node `n` has `count` distinct subtrees, more than a `Tree` may have
@@ -28,40 +30,51 @@ pub record IsKeptAs (old : TableObject) (g : List Node) (n h : ℕ) (new : Table
   pub few : length tree ≤ most_nodes
   pub kept : intern old 0 tree ≡ kept h new
 
--- what a command answers, by the names that were given before and the table, and the table after it
-abbrev pub IsAnswered : List NameId → TableObject → FirstPut → PutAnswer → TableObject → Type 0
-IsAnswered given old put NameTaken new = Contains given put.name × (new ≡ old)
-IsAnswered given old put NotGround new = (Contains given put.name → ⊥) × ReachesFree put.graph put.root × (new ≡ old)
-IsAnswered given old put (TooLarge count) new =
-    (Contains given put.name → ⊥) × ReachesNoFree put.graph put.root × IsTooLarge put.graph put.root count × (new ≡ old)
-IsAnswered given old put (Kept h) new = (Contains given put.name → ⊥) × ReachesNoFree put.graph put.root × IsKeptAs old put.graph put.root h.0 new
+-- what putting the tree of node `n` under a name answers, by the names that were given before and the table, and the table after it
+abbrev pub IsPutAnswered : List NameId → TableObject → NameId → List Node → ℕ → PutAnswer → TableObject → Type 0
+IsPutAnswered given old name g n NameTaken new = Contains given name × (new ≡ old)
+IsPutAnswered given old name g n NotGround new = (Contains given name → ⊥) × ReachesFree g n × (new ≡ old)
+IsPutAnswered given old name g n (TooLarge count) new = (Contains given name → ⊥) × ReachesNoFree g n × IsTooLarge g n count × (new ≡ old)
+IsPutAnswered given old name g n (Kept h) new = (Contains given name → ⊥) × ReachesNoFree g n × IsKeptAs old g n h.0 new
 
--- the names that are given after a command: its own too, where its tree is kept
-abbrev pub given_with : List NameId → NameId → PutAnswer → List NameId
-given_with given name NameTaken = given
-given_with given name NotGround = given
-given_with given name (TooLarge count) = given
-given_with given name (Kept h) = given ++ name ∷ []
+-- likewise a command; no other has such an answer
+abbrev pub IsAnswered : List NameId → TableObject → Command → PutAnswer → TableObject → Type 0
+IsAnswered given old (command.Put name g n) answer new = IsPutAnswered given old name g n answer new
+IsAnswered given old _ answer new = ⊥
+
+-- the names that are given after a tree is put: this one too, where its tree is kept
+abbrev pub put_given : List NameId → NameId → PutAnswer → List NameId
+put_given given name NameTaken = given
+put_given given name NotGround = given
+put_given given name (TooLarge count) = given
+put_given given name (Kept h) = given ++ name ∷ []
+
+-- likewise after a command
+abbrev pub given_with : List NameId → Command → PutAnswer → List NameId
+given_with given (command.Put name g n) answer = put_given given name answer
+given_with given _ answer = given
 
 -- the answers of commands in turn, and the table at their end
-abbrev pub AreAnswered : List NameId → TableObject → List FirstPut → List PutAnswer → TableObject → Type 0
+abbrev pub AreAnswered : List NameId → TableObject → List Command → List PutAnswer → TableObject → Type 0
 AreAnswered given old [] [] new = new ≡ old
 AreAnswered given old [] (answer ∷ answers) new = ⊥
-AreAnswered given old (put ∷ puts) [] new = ⊥
-AreAnswered given old (put ∷ puts) (answer ∷ answers) new =
-    (mid : TableObject) × IsAnswered given old put answer mid × AreAnswered (given_with given put.name answer) mid puts answers new
+AreAnswered given old (command ∷ commands) [] new = ⊥
+AreAnswered given old (command ∷ commands) (answer ∷ answers) new =
+    (mid : TableObject) × IsAnswered given old command answer mid × AreAnswered (given_with given command answer) mid commands answers new
 
 -- two commands printed one number exactly where their trees agree along every path
-abbrev pub OneNumberATree : List FirstPut → List PutAnswer → Type 0
-OneNumberATree puts answers =
-    (i j : ℕ) (put other : FirstPut) (h k : ℕ) → slice_get puts i ≡ Some put → slice_get puts j ≡ Some other →
-    slice_get answers i ≡ Some (Kept (record { 0 = h })) → slice_get answers j ≡ Some (Kept (record { 0 = k })) →
-    (h ≡ k) ↔ Same put.graph put.root other.graph other.root
+abbrev pub OneNumberATree : List Command → List PutAnswer → Type 0
+OneNumberATree commands answers =
+    (i j : ℕ) (name name' : NameId) (g g' : List Node) (n n' h h' : ℕ) →
+    slice_get commands i ≡ Some (command.Put name g n) → slice_get commands j ≡ Some (command.Put name' g' n') →
+    slice_get answers i ≡ Some (Kept (record { 0 = h })) → slice_get answers j ≡ Some (Kept (record { 0 = h' })) →
+    (h ≡ h') ↔ Same g n g' n'
 
--- the run of an input: its answers from the empty table, the numbers as said, and the lines
-pub record IsRun (first : First) (text : List ℕ) : Type 0 where
+-- the run of an input, all of which is built: its answers from the empty table, the numbers as said, and the lines
+pub record IsRun (input : Input) (text : List ℕ) : Type 0 where
+  pub built : AreBuilt input.sessions
   pub answers : List PutAnswer
   pub table : TableObject
-  pub answered : AreAnswered [] (empty_table ROW_LIMIT) first.puts answers table
-  pub numbers : OneNumberATree first.puts answers
-  pub written : text ≡ text_of first answers table
+  pub answered : AreAnswered [] (empty_table ROW_LIMIT) (commands_run input.sessions) answers table
+  pub numbers : OneNumberATree (commands_run input.sessions) answers
+  pub written : text ≡ text_of input answers table

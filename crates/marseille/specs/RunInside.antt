@@ -1,9 +1,10 @@
 -- What holds while commands run: what becomes of a command's tree, and the invariant of the loop over the commands.
-use Rattle.std.specs.Prelude.{◌≡◌, ℕ, ◌≤◌, List, [], ◌∷◌, ◌++◌, length}
+use Rattle.std.specs.Prelude.{◌≡◌, ℕ, ◌≤◌, ◌+◌, List, [], ◌∷◌, ◌++◌, length, sum_by}
 use Rattle.std.specs.List.{AllZip}
 use Rattle.mars_tree.specs.declared.label.NameId.{NameId}
-use Rattle.mars_read.specs.declared.first.FirstPut.{FirstPut}
-use Rattle.mars_read.specs.First.{nodes_in}
+use Rattle.mars_script.specs.declared.script.Command.{Command}
+use Rattle.mars_script.specs.declared.script.Command.TheVariants as command
+use Rattle.mars_scripts.specs.Sizes.{nodes_of_command}
 use Rattle.mars_tree.specs.Graph.{Node}
 use Rattle.mars_reach.specs.Reach.{ReachesFree, ReachesNoFree}
 use Rattle.mars_canon.specs.Tree.{most_nodes}
@@ -15,10 +16,10 @@ use Rattle.mars_rows.specs.TreeGraph.{IsTreeGraphOf}
 use Rattle.marseille.specs.declared.run.Form.{Form}
 use Rattle.marseille.specs.declared.run.Form.TheVariants.{Free, Large, Small}
 use Rattle.marseille.specs.declared.run.PutAnswer.{PutAnswer}
-use Rattle.marseille.specs.declared.run.PutAnswer.TheVariants.{NameTaken, NotGround, TooLarge, Kept}
+use Rattle.marseille.specs.declared.run.PutAnswer.TheVariants.{Kept}
 use Rattle.marseille.specs.declared.run.TheConstants.{ROW_LIMIT}
-use Rattle.marseille.specs.Run.{IsTooLarge, AreAnswered, given_with}
-use Rattle.marseille.specs.Text.{lines_of}
+use Rattle.marseille.specs.Run.{IsTooLarge, IsAnswered, AreAnswered, given_with}
+use Rattle.marseille.specs.Text.{line_of, lines_of}
 
 -- what becomes of the tree of node `n`
 abbrev pub IsFormOf : List Node → ℕ → Form → Type 0
@@ -26,27 +27,40 @@ IsFormOf g n Free = ReachesFree g n
 IsFormOf g n (Large count) = ReachesNoFree g n × IsTooLarge g n count
 IsFormOf g n (Small tree) = ReachesNoFree g n × IsTreeGraphOf g n tree × (length tree ≤ most_nodes) × (length tree ≤ length g)
 
--- the names that are given after commands
-abbrev pub given_after : List NameId → List FirstPut → List PutAnswer → List NameId
-given_after given [] answers = given
-given_after given (put ∷ puts) [] = given
-given_after given (put ∷ puts) (answer ∷ answers) = given_after (given_with given put.name answer) puts answers
+-- a command has run: its answer, the names and the table after it, and its line after what was written before
+pub record HasAnswered (names : List (List ℕ)) (given : List NameId) (table : TableObject) (text : List ℕ) (command : Command)
+    (given' : List NameId) (table' : TableObject) (text' : List ℕ) : Type 0 where
+  pub answer : PutAnswer
+  pub answered : IsAnswered given table command answer table'
+  pub given_is : given' ≡ given_with given command answer
+  pub line : text' ≡ text ++ line_of names command answer
+  pub sound : IsSound table'
+  pub size : length table'.rows ≤ length table.rows + nodes_of_command command
 
--- the number that a command printed has the command's tree
-abbrev pub IsKeptTree : TableObject → FirstPut → PutAnswer → Type 0
-IsKeptTree table put NameTaken = Unit {0}
-IsKeptTree table put NotGround = Unit {0}
-IsKeptTree table put (TooLarge count) = Unit {0}
-IsKeptTree table put (Kept h) = HasRow table.rows h.0 × IsRowOf table.rows h.0 put.graph put.root
+-- the names that are given after commands
+abbrev pub given_after : List NameId → List Command → List PutAnswer → List NameId
+given_after given [] answers = given
+given_after given (command ∷ commands) [] = given
+given_after given (command ∷ commands) (answer ∷ answers) = given_after (given_with given command answer) commands answers
+
+-- the number that was printed for the tree of node `n` has that tree
+abbrev pub IsKeptNode : TableObject → List Node → ℕ → PutAnswer → Type 0
+IsKeptNode table g n (Kept h) = HasRow table.rows h.0 × IsRowOf table.rows h.0 g n
+IsKeptNode table g n _ = Unit {0}
+
+-- likewise for a command
+abbrev pub IsKeptTree : TableObject → Command → PutAnswer → Type 0
+IsKeptTree table (command.Put name g n) answer = IsKeptNode table g n answer
+IsKeptTree table _ answer = Unit {0}
 
 -- commands have run: their answers, the names and the table after them, and their lines after what was written before
-pub record HaveRun (names : List (List ℕ)) (begun : List ℕ) (puts : List FirstPut) (given : List NameId) (table : TableObject) (text : List ℕ) : Type 0 where
+pub record HaveRun (names : List (List ℕ)) (begun : List ℕ) (commands : List Command) (given : List NameId) (table : TableObject) (text : List ℕ) : Type 0 where
   pub answers : List PutAnswer
-  pub answered : AreAnswered [] (empty_table ROW_LIMIT) puts answers table
-  pub given_are : given ≡ given_after [] puts answers
-  pub lines : text ≡ begun ++ lines_of names puts answers
-  pub hold : AllZip (IsKeptTree table) puts answers
+  pub answered : AreAnswered [] (empty_table ROW_LIMIT) commands answers table
+  pub given_are : given ≡ given_after [] commands answers
+  pub lines : text ≡ begun ++ lines_of names commands answers
+  pub hold : AllZip (IsKeptTree table) commands answers
   pub sound : IsSound table
   pub met : AreAllMet table
-  pub size : length table.rows ≤ nodes_in puts
+  pub size : length table.rows ≤ sum_by nodes_of_command commands
   pub limit : table.limit ≡ ROW_LIMIT

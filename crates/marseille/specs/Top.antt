@@ -1,20 +1,33 @@
 -- What the program does between its words, its source and its sink.
-use Rattle.std.specs.Prelude.{◌≡◌, ℕ, ◌<◌, List, length, codes, Option, String}
+use Rattle.std.specs.Prelude.{◌≡◌, ◌≢◌, ℕ, ◌<◌, List, length, codes, Option}
 use Rattle.std.specs.Io.KnownBytes.{Appends, Consumes, IsAtEnd}
 use Rattle.mars_io.specs.Sink.{AppendsPrefix}
 use Rattle.mars_io.specs.Whole.{HasRead}
-use Rattle.mars_read.specs.declared.first.First.{First}
-use Rattle.mars_read.specs.declared.limits.TheConstants.{INPUT_LIMIT}
-use Rattle.mars_read.specs.First.{IsReadFrom, IsNoFirstForm}
-use Rattle.marseille.specs.Words.{AreWords}
+use Rattle.mars_script.specs.declared.script.Input.{Input}
+use Rattle.mars_reader.specs.declared.error.ReadError.{ReadError}
+use Rattle.mars_reader.specs.declared.error.ReadError.TheVariants as why
+use Rattle.mars_reader.specs.declared.error.TheConstants.{TEXT_LIMIT}
+use Rattle.mars_reader.specs.ReadInput.{IsReadInput, IsNoInput}
+use Rattle.marseille.specs.declared.top.DueOutput.{DueOutput}
+use Rattle.marseille.specs.declared.status.Status.{Status}
+use Rattle.marseille.specs.declared.status.Status.TheVariants as status
+use Rattle.marseille.specs.declared.words.Taken.TheVariants as taken
+use Rattle.marseille.specs.Built.{AreBuilt}
+use Rattle.marseille.specs.Refusal.{refusal_line}
+use Rattle.marseille.specs.Words.{AreTakenAs}
 use Rattle.marseille.specs.Run.{IsRun}
 
--- the bytes are of the form, and the output is that of the run of what they say
+-- the bytes are an input, and the output is that of its run
 pub record IsRunOf (bytes output : List ℕ) : Type 0 where
-  pub first : First
-  pub says : IsReadFrom bytes first
-  pub run : IsRun first output
+  pub input : Input
+  pub says : IsReadInput bytes input
+  pub run : IsRun input output
   pub some : 0 < length output
+
+-- the bytes are refused as an input, or are one that is well formed but of which not all is built; the output says so
+pub data IsRefusedWith (bytes output : List ℕ) : Type 0 where
+  refused : (error : ReadError) → error ≢ why.NoMemory → IsNoInput bytes error → output ≡ refusal_line error → IsRefusedWith bytes output
+  unbuilt : (input : Input) → IsReadInput bytes input → (AreBuilt input.sessions → ⊥) → output ≡ codes "refused unbuilt\n" → IsRefusedWith bytes output
 
 -- the source was read to its end, and the output is that of the run of its bytes
 pub record Runs (old new : Option (List ℕ)) (output : List ℕ) : Type 0 where
@@ -23,23 +36,40 @@ pub record Runs (old new : Option (List ℕ)) (output : List ℕ) : Type 0 where
   pub ended : IsAtEnd new
   pub run : IsRunOf bytes output
 
--- the bytes that were read aren't of the form, and the output says so
+-- these bytes were read, to the end or to one past the limit, and the output is that of their refusal
 pub record Refuses (old new : Option (List ℕ)) (output : List ℕ) : Type 0 where
   pub bytes : List ℕ
-  pub read : HasRead INPUT_LIMIT old new bytes
-  pub other : IsNoFirstForm bytes
-  pub says : output ≡ codes "refused\n"
+  pub read : HasRead TEXT_LIMIT old new bytes
+  pub refused : IsRefusedWith bytes output
 
--- the words aren't accepted, and the output says so
-pub record RefusesWords {Z : Type 0} (words : List (String Z)) (output : List ℕ) : Type 0 where
-  pub other : AreWords words → ⊥
-  pub says : output ≡ codes "words refused\n"
+-- the words aren't accepted, or are accepted and not built; the output says so
+pub data RefusesWords (texts : List (List ℕ)) (output : List ℕ) : Type 0 where
+  refused : AreTakenAs texts taken.Refused → output ≡ codes "words refused\n" → RefusesWords texts output
+  unbuilt : AreTakenAs texts taken.Unbuilt → output ≡ codes "words unbuilt\n" → RefusesWords texts output
 
 -- an output that is due, for one of these causes
-pub data IsDue {Z : Type 0} (words : List (String Z)) (old new : Option (List ℕ)) (output : List ℕ) : Type 0 where
-  run : AreWords words → Runs old new output → IsDue words old new output
-  refused : AreWords words → Refuses old new output → IsDue words old new output
-  words_refused : RefusesWords words output → IsDue words old new output
+pub data IsDue (texts : List (List ℕ)) (old new : Option (List ℕ)) (output : List ℕ) : Type 0 where
+  run : AreTakenAs texts taken.Run → Runs old new output → IsDue texts old new output
+  refused : AreTakenAs texts taken.Run → Refuses old new output → IsDue texts old new output
+  words_refused : RefusesWords texts output → IsDue texts old new output
+
+-- the output that bytes give, with its status
+abbrev pub IsDueWith : List ℕ → List ℕ → Status → Type 0
+IsDueWith bytes output status.Done = IsRunOf bytes output
+IsDueWith bytes output status.Refused = IsRefusedWith bytes output × (0 < length output)
+IsDueWith bytes output _ = ⊥
+
+abbrev pub IsDueFor : List ℕ → DueOutput → Type 0
+IsDueFor bytes due = IsDueWith bytes due.output.items due.status
+
+-- the output that what was read of a source gives, with its status
+abbrev pub IsDueAs : Option (List ℕ) → Option (List ℕ) → List ℕ → Status → Type 0
+IsDueAs old new output status.Done = Runs old new output
+IsDueAs old new output status.Refused = Refuses old new output × (0 < length output)
+IsDueAs old new output _ = ⊥
+
+abbrev pub IsDueAfter : Option (List ℕ) → Option (List ℕ) → DueOutput → Type 0
+IsDueAfter old new due = IsDueAs old new due.output.items due.status
 
 -- the sink got a whole output of this kind
 pub record GetsAll (IsOutput : List ℕ → Type 0) (old new : Option (List ℕ)) : Type 0 where

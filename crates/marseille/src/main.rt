@@ -1,6 +1,8 @@
 //! `marseille` reads an input from standard input, runs it, and writes what it answers to standard output.
 #![tactic(auto)]
 
+mod built;
+mod refusal;
 mod run;
 mod shelf;
 mod status;

@@ -1,18 +1,19 @@
 //! The commands of an input, run one after the other over one table.
-ghost use Rattle.std.specs.Prelude.{◌≡◌, ◌<◌, ◌≤◌, ◌+◌, ℕ, List, [], length, All, IfOk, OnOk};
+ghost use Rattle.std.specs.Prelude.{◌≡◌, ◌<◌, ◌≤◌, ◌+◌, ◌++◌, [], length, sum_by, All, IfOk, OnOk};
 ghost use Rattle.mars_rows.specs.Object.{empty_table};
 ghost use Rattle.mars_rows.specs.Sound.{IsSound};
-ghost use Rattle.mars_read.specs.First.{nodes_in};
-ghost use Rattle.marseille.specs.Run.{IsAnswered, given_with, IsRun};
-ghost use Rattle.marseille.specs.RunInside.{IsFormOf, HaveRun};
+ghost use Rattle.mars_scripts.specs.WellFormed.{IsWellFormedCommand, IsWellFormedScript, IsWellFormedInput};
+ghost use Rattle.mars_scripts.specs.Sizes.{nodes_of_command, nodes_of_script, nodes_put};
+ghost use Rattle.marseille.specs.Built.{IsBuiltCommand, AreBuilt, commands_run};
+ghost use Rattle.marseille.specs.Run.{IsPutAnswered, put_given, IsRun};
+ghost use Rattle.marseille.specs.RunInside.{IsFormOf, HasAnswered, HaveRun};
 ghost use Rattle.marseille.specs.Text.{session_line};
-ghost use Rattle.marseille.specs.Ready.{IsPutReady, IsListed};
 
 use crate::shelf::Shelf;
 use crate::text::{push_answer, push_counts, push_session};
 use mars_base::NoMemory;
 use mars_canon::{Tree, canon};
-use mars_read::{First, FirstPut};
+use mars_script::{Command, Input, Script};
 use mars_table::Handle;
 use mars_tree::{Graph, NameId, Names};
 use std::alloc::Global;
@@ -67,85 +68,128 @@ fn form_of(alloc: Global, graph: &Graph, root: usize) -> Result<Form, NoMemory>
     }
 }
 
-/// Runs one command.
-fn run_put(alloc: Global, session: &mut Session, put: &FirstPut) -> Result<PutAnswer, NoMemory>
-    requires root { put.now.root < length put.now.graph }
-    requires room { length session.old.table.rows + length put.now.graph ≤ session.old.table.limit }
+/// Runs the command that puts a tree under a name.
+fn run_put(
+    alloc: Global,
+    session: &mut Session,
+    name: NameId,
+    graph: &Graph,
+    root: usize,
+) -> Result<PutAnswer, NoMemory>
+    requires root { root < length graph.now }
+    requires room { length session.old.table.rows + length graph.now ≤ session.old.table.limit }
     requires sound { IsSound session.old.table }
     ensures answered { IfOk result (λ answer.
-        IsAnswered session.old.given.items session.old.table put.now answer session.new.table) }
-    ensures given { IfOk result (λ answer.
-        session.new.given.items ≡ given_with session.old.given.items put.now.name answer) }
+        IsPutAnswered session.old.given.items session.old.table name graph.now root answer session.new.table) }
+    ensures given { IfOk result (λ answer. session.new.given.items ≡ put_given session.old.given.items name answer) }
     ensures sound { OnOk result (IsSound session.new.table) }
     ensures small { OnOk result
-        (length session.new.table.rows ≤ length session.old.table.rows + length put.now.graph) }
+        (length session.new.table.rows ≤ length session.old.table.rows + length graph.now) }
 {
-    if session.given.contains(&put.name) {
+    if session.given.contains(&name) {
         return Ok(PutAnswer::NameTaken);
     }
-    match form_of(alloc, &put.graph, put.root)? {
+    match form_of(alloc, graph, root)? {
         Form::Free => Ok(PutAnswer::NotGround),
         Form::Large(count) => Ok(PutAnswer::TooLarge(count)),
         Form::Small(tree) => {
             let handle = session.table.intern(0, tree)?;
-            session.given.push(put.name)?;
+            session.given.push(name)?;
             Ok(PutAnswer::Kept(handle))
         }
     }
 }
 
-/// Runs commands, and writes their lines.
-fn run_puts(
+/// Runs one command, and writes its line.
+fn run_command(
     alloc: Global,
     session: &mut Session,
     names: &Names,
-    puts: &[FirstPut],
+    command: &Command,
     text: &mut Vec<u8>,
 ) -> Result<(), NoMemory>
-    requires ready { All (IsPutReady names.now) puts.now }
+    requires built { IsBuiltCommand command.now }
+    requires formed { IsWellFormedCommand command.now }
+    requires room { length session.old.table.rows + nodes_of_command command.now ≤ session.old.table.limit }
+    requires sound { IsSound session.old.table }
+    ensures { OnOk result (HasAnswered names.now session.old.given.items session.old.table text.old.items command.now
+        session.new.given.items session.new.table text.new.items) }
+{
+    match command {
+        Command::Put { name, graph, root } => {
+            let answer = run_put(alloc, session, *name, graph, *root)?;
+            push_answer(text, names, *name, answer)
+        }
+        _ => unreachable!(),
+    }
+}
+
+/// Runs commands, and writes their lines.
+fn run_commands(
+    alloc: Global,
+    session: &mut Session,
+    names: &Names,
+    commands: &[Command],
+    text: &mut Vec<u8>,
+) -> Result<(), NoMemory>
+    requires built { All IsBuiltCommand commands.now }
+    requires formed { All IsWellFormedCommand commands.now }
     requires table { session.old.table ≡ empty_table ROW_LIMIT }
     requires given { session.old.given.items ≡ [] }
     requires sound { IsSound session.old.table }
-    requires room { nodes_in puts.now ≤ ROW_LIMIT }
+    requires room { sum_by nodes_of_command commands.now ≤ ROW_LIMIT }
     ensures { OnOk result
-        (HaveRun names.now text.old.items puts.now session.new.given.items session.new.table text.new.items) }
+        (HaveRun names.now text.old.items commands.now session.new.given.items session.new.table text.new.items) }
 {
-    for put in puts {
-        let answer = run_put(alloc, session, put)?;
-        push_answer(text, names, put.name, answer)?;
+    for command in commands {
+        run_command(alloc, session, names, command, text)?;
     }
     Ok(())
 }
 
-/// The text before the lines of the commands: the line of the session, where there is one.
-fn opening(alloc: Global, names: &Names, session: Option<NameId>) -> Result<Vec<u8>, NoMemory>
-    requires { IsListed names.now session }
-    ensures { IfOk result (λ text. text.items ≡ session_line names.now session) }
+/// Runs the one session, where there is one, and writes its lines.
+fn run_scripts(
+    alloc: Global,
+    session: &mut Session,
+    names: &Names,
+    scripts: &[Script],
+    text: &mut Vec<u8>,
+) -> Result<(), NoMemory>
+    requires built { AreBuilt scripts.now }
+    requires formed { All IsWellFormedScript scripts.now }
+    requires table { session.old.table ≡ empty_table ROW_LIMIT }
+    requires given { session.old.given.items ≡ [] }
+    requires sound { IsSound session.old.table }
+    requires room { sum_by nodes_of_script scripts.now ≤ ROW_LIMIT }
+    ensures { OnOk result (HaveRun names.now (text.old.items ++ session_line names.now scripts.now)
+        (commands_run scripts.now) session.new.given.items session.new.table text.new.items) }
 {
-    let mut text = Vec::new(alloc);
-    if let Some(session) = session {
-        push_session(&mut text, names, session)?;
+    match scripts {
+        [script] => {
+            push_session(text, names, script.name)?;
+            run_commands(alloc, session, names, script.commands.as_slice(), text)
+        }
+        _ => Ok(()),
     }
-    Ok(text)
 }
 
-/// The text of the run of a session's commands.
-pub(crate) fn run(alloc: Global, first: &First) -> Result<Vec<u8>, NoMemory>
-    requires ready { All (IsPutReady first.now.names) first.now.puts }
-    requires listed { IsListed first.now.names first.now.session }
-    requires room { nodes_in first.now.puts ≤ ROW_LIMIT }
-    ensures { IfOk result (λ text. IsRun first.now text.items) }
+/// The text of the run of an input.
+pub(crate) fn run(alloc: Global, input: &Input) -> Result<Vec<u8>, NoMemory>
+    requires built { AreBuilt input.now.sessions }
+    requires formed { IsWellFormedInput input.now }
+    requires room { nodes_put input.now ≤ ROW_LIMIT }
+    ensures { IfOk result (λ text. IsRun input.now text.items) }
 {
-    let mut text = opening(alloc, &first.names, first.session)?;
+    let mut text = Vec::new(alloc);
     let mut session = Session {
         given: Vec::new(alloc),
         table: Shelf::new(alloc, ROW_LIMIT),
     };
-    run_puts(
+    run_scripts(
         alloc,
         &mut session,
-        &first.names,
-        first.puts.as_slice(),
+        &input.names,
+        input.sessions.as_slice(),
         &mut text,
     )?;
     let (rows, pins) = session.table.counts();

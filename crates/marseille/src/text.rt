@@ -1,19 +1,22 @@
 //! The lines that the program writes.
-ghost use Rattle.std.specs.Prelude.{◌≡◌, ◌++◌, ◌<◌, length, OnOk};
+ghost use Rattle.std.specs.Prelude.{◌≡◌, ◌++◌, OnOk, codes, decimal};
 ghost use Rattle.mars_tree.specs.Names.{spelling};
-ghost use Rattle.marseille.specs.Text.{session_line, line_of, counts_line};
+ghost use Rattle.marseille.specs.declared.run.PutAnswer.TheVariants.{Kept};
+ghost use Rattle.marseille.specs.Text.{name_line, put_line, counts_line};
 
 use crate::run::PutAnswer;
 use itoa::Buffer;
 use mars_base::NoMemory;
+use mars_table::Handle;
 use mars_tree::{NameId, Names};
 
-/// Writes the spelling of a name.
+/// Writes the spelling of a name. One that isn't among the names has none.
 fn push_spelling(text: &mut Vec<u8>, names: &Names, name: NameId) -> Result<(), NoMemory>
-    requires { name.0 < length names.now }
     ensures { OnOk result (text.new.items ≡ text.old.items ++ spelling names.now name) }
 {
-    text.extend_from_slice(names.text(name))?;
+    if (name.0 as usize) < names.len() {
+        text.extend_from_slice(names.text(name))?;
+    }
     Ok(())
 }
 
@@ -23,11 +26,39 @@ pub(crate) fn push_session(
     names: &Names,
     session: NameId,
 ) -> Result<(), NoMemory>
-    requires { session.0 < length names.now }
-    ensures { OnOk result (text.new.items ≡ text.old.items ++ session_line names.now (Some session)) }
+    ensures { OnOk result (text.new.items ≡ text.old.items ++ name_line names.now session) }
 {
     text.extend_from_slice(b"session ")?;
     push_spelling(text, names, session)?;
+    text.extend_from_slice(b"\n")?;
+    Ok(())
+}
+
+/// Writes the line of a tree that is too large.
+fn push_too_large(text: &mut Vec<u8>, count: usize) -> Result<(), NoMemory>
+    ensures { OnOk result (text.new.items ≡ text.old.items ++ codes "too large " ++ decimal count ++ codes "\n") }
+{
+    let mut buffer = Buffer::new();
+    text.extend_from_slice(b"too large ")?;
+    text.extend_from_slice(buffer.format(count).as_bytes())?;
+    text.extend_from_slice(b"\n")?;
+    Ok(())
+}
+
+/// Writes the line of a tree that is kept.
+fn push_kept(
+    text: &mut Vec<u8>,
+    names: &Names,
+    name: NameId,
+    handle: Handle,
+) -> Result<(), NoMemory>
+    ensures { OnOk result (text.new.items ≡ text.old.items ++ put_line names.now name (Kept handle)) }
+{
+    let mut buffer = Buffer::new();
+    text.extend_from_slice(b"kept ")?;
+    push_spelling(text, names, name)?;
+    text.extend_from_slice(b" #")?;
+    text.extend_from_slice(buffer.format(handle.0).as_bytes())?;
     text.extend_from_slice(b"\n")?;
     Ok(())
 }
@@ -39,26 +70,13 @@ pub(crate) fn push_answer(
     name: NameId,
     answer: PutAnswer,
 ) -> Result<(), NoMemory>
-    requires { name.0 < length names.now }
-    ensures { OnOk result (text.new.items ≡ text.old.items ++ line_of names.now name answer) }
+    ensures { OnOk result (text.new.items ≡ text.old.items ++ put_line names.now name answer) }
 {
     match answer {
         PutAnswer::NameTaken => text.extend_from_slice(b"name taken\n")?,
         PutAnswer::NotGround => text.extend_from_slice(b"not ground\n")?,
-        PutAnswer::TooLarge(count) => {
-            let mut buffer = Buffer::new();
-            text.extend_from_slice(b"too large ")?;
-            text.extend_from_slice(buffer.format(count).as_bytes())?;
-            text.extend_from_slice(b"\n")?;
-        }
-        PutAnswer::Kept(handle) => {
-            let mut buffer = Buffer::new();
-            text.extend_from_slice(b"kept ")?;
-            push_spelling(text, names, name)?;
-            text.extend_from_slice(b" #")?;
-            text.extend_from_slice(buffer.format(handle.0).as_bytes())?;
-            text.extend_from_slice(b"\n")?;
-        }
+        PutAnswer::TooLarge(count) => push_too_large(text, count)?,
+        PutAnswer::Kept(handle) => push_kept(text, names, name, handle)?,
     }
     Ok(())
 }
