@@ -1,9 +1,8 @@
-//! Answers rows on texts: what the public calls of `mars_read` and `mars_print` give, on worked inputs and trees. `stdin` has
-//! the rows, `stdout` the rows with their answers.
+//! Answers rows on texts: what the public calls of `mars_print` give, on worked trees. `stdin` has the rows, `stdout` the
+//! rows with their answers.
 #![tactic(auto)]
 
 mod printing;
-mod reading;
 
 use rows::{Stop, answer_rows};
 use std::alloc::Global;
@@ -16,8 +15,6 @@ fn main(rt: HostRuntime) -> io::Result<()> {
 /// The answer of a row, by its first word.
 fn answer(alloc: Global, word: &str, rest: &str, into: &mut Vec<u8>) -> Result<(), Stop> {
     match word {
-        "read" => reading::answer_read(alloc, rest, into),
-        "spelled" => reading::answer_spelled(alloc, rest, into),
         "canon" => printing::answer_canon(alloc, rest, into),
         "print" => printing::answer_print(alloc, rest, into),
         _ => Err(Stop::NoRow),
