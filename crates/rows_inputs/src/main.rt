@@ -1,0 +1,44 @@
+//! Answers rows on the reader of inputs: what an input says, or its refusal with its place. `stdin` has the rows, `stdout`
+//! the rows with their answers.
+#![tactic(auto)]
+
+mod counted;
+mod said;
+
+use counted::{push_commands, push_counts, push_names, push_spelled};
+use mars_reader::read_input;
+use mars_script::Input;
+use rows::{Stop, answer_rows, push_refusal, unfolded_text};
+use said::push_input;
+use std::alloc::Global;
+use std::io;
+
+fn main(rt: HostRuntime) -> io::Result<()> {
+    answer_rows(&rt, answer)
+}
+
+/// The answer of a row, by its first word.
+fn answer(alloc: Global, word: &str, rest: &str, into: &mut Vec<u8>) -> Result<(), Stop> {
+    let text = unfolded_text(alloc, rest)?;
+    answer_text(alloc, word, text.as_bytes(), into)
+}
+
+/// Reads an input, and answers, or writes the refusal.
+fn answer_text(alloc: Global, word: &str, bytes: &[u8], into: &mut Vec<u8>) -> Result<(), Stop> {
+    match read_input(alloc, bytes) {
+        Ok(input) => answer_input(alloc, word, &input, into),
+        Err(error) => push_refusal(error, into),
+    }
+}
+
+/// Answers a row whose input was read.
+fn answer_input(alloc: Global, word: &str, input: &Input, into: &mut Vec<u8>) -> Result<(), Stop> {
+    match word {
+        "input" => push_input(alloc, input, into),
+        "read" => push_commands(input, into),
+        "count" => push_counts(input, into),
+        "names" => push_names(&input.names, into),
+        "spelled" => push_spelled(input, into),
+        _ => Err(Stop::NoRow),
+    }
+}
