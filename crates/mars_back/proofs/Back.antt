@@ -27,13 +27,13 @@ use Rattle.mars_graphs.specs.Systems.{Equation, EquationSystem, IsSolution}
 use Rattle.mars_graphs.specs.Steps.{TreeStep, nothing_written, writes_all, system_of}
 use Rattle.mars_graphs.specs.Making.{nothing_made, makes_all}
 use Rattle.mars_scripts.specs.Trees.{no_tree, steps_told}
-use Rattle.mars_reader.specs.declared.error.ReadError.{ReadError}
-use Rattle.mars_reader.specs.declared.error.ReadError.TheVariants as error
-use Rattle.mars_reader.specs.declared.error.TheConstants.{TEXT_LIMIT}
-use Rattle.mars_reader.specs.Spellings.{Spellings, spellings_from, all_names}
-use Rattle.mars_reader.specs.Spelled.{events_told, spellings_after}
-use Rattle.mars_reader.specs.Refused.{is_too_long, HasFirstFault, RefusesBy, either_limit}
-use Rattle.mars_reader.specs.ReadTree.{TreeValue, tree_building, tree_begins, IsReadTree, IsNoTreeText, system_told}
+use Rattle.mars_read.specs.declared.error.ReadError.{ReadError}
+use Rattle.mars_read.specs.declared.error.ReadError.TheVariants as error
+use Rattle.mars_read.specs.declared.error.TheConstants.{TEXT_LIMIT}
+use Rattle.mars_read.specs.Spellings.{Spellings, spellings_from, all_names}
+use Rattle.mars_read.specs.Spelled.{events_told, spellings_after}
+use Rattle.mars_read.specs.Refused.{is_too_long, HasFirstFault, RefusesBy, either_limit}
+use Rattle.mars_read.specs.ReadTree.{TreeValue, tree_building, tree_begins, IsReadTree, IsNoTreeText, system_told}
 use Rattle.mars_print.specs.Text.{name_text, text}
 use Rattle.mars_back.specs.Written.{Naming, by_number, reference_side, written_system}
 use Rattle.mars_back.specs.ReadBack.{IsWritten, TextsReadBack}

@@ -20,8 +20,8 @@ use Rattle.mars_graphs.specs.declared.maker.Head.TheVariants as head
 use Rattle.mars_graphs.specs.Systems.{Side, variable, labelled, Sides, no_sides, next_side, Equation, EquationSystem}
 use Rattle.mars_graphs.specs.Steps.{TreeStep, Variable, Leaf, Open, Close, Equate, Define}
 use Rattle.mars_scripts.specs.Trees.{token_told, action_told, step_before, steps_told}
-use Rattle.mars_reader.specs.Spellings.{Spellings, meaning_of, with_token, integer_or, name_in, with_name}
-use Rattle.mars_reader.specs.Spelled.{events_told, spellings_after}
+use Rattle.mars_read.specs.Spellings.{Spellings, meaning_of, with_token, integer_or, name_in, with_name}
+use Rattle.mars_read.specs.Spelled.{events_told, spellings_after}
 use Rattle.mars_print.specs.Text.{name_text, quoted}
 use Rattle.mars_back.specs.Written.{IsStringMeaning, FitsInteger}
 use Rattle.mars_back.specs.PartsInside.{TextPart, Token, Blank, Left, dot_symbol, side_parts, dot_parts, row_parts, equation_parts, more_parts, where_parts, system_parts, parts_text, part_events, step_named, part_steps, variables_with, variables_after, named_in}

@@ -25,11 +25,11 @@ use Rattle.mars_graphs.specs.Steps.{TreeStep, Variable, Leaf, Open, Close, Equat
 use Rattle.mars_graphs.specs.Making.{Making, makes, makes_all, made_over, closed_making, defined_making}
 use Rattle.mars_scripts.specs.declared.trees.TreeMaker.{TreeMaker}
 use Rattle.mars_scripts.specs.Trees.{token_told, action_told, step_before, steps_told, made_by_step, with_step, tree_event, tree_over}
-use Rattle.mars_reader.specs.declared.spellings.TokenRole.{TokenRole}
-use Rattle.mars_reader.specs.declared.spellings.TokenRole.TheVariants as role
-use Rattle.mars_reader.specs.Spellings.{Spellings, role_of, valued, meaning_as, meaning_of, with_token}
-use Rattle.mars_reader.specs.Spelled.{events_told}
-use Rattle.mars_reader.specs.ReadTree.{TreeValue, tree_building}
+use Rattle.mars_read.specs.declared.spellings.TokenRole.{TokenRole}
+use Rattle.mars_read.specs.declared.spellings.TokenRole.TheVariants as role
+use Rattle.mars_read.specs.Spellings.{Spellings, role_of, valued, meaning_as, meaning_of, with_token}
+use Rattle.mars_read.specs.Spelled.{events_told}
+use Rattle.mars_read.specs.ReadTree.{TreeValue, tree_building}
 use Rattle.mars_back.specs.PartsInside.{TextPart, Token, Blank, Left, part_events}
 use Rattle.mars_back.proofs.Quiet.{AreQuiet}
 

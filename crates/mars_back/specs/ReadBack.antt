@@ -6,10 +6,10 @@ use Rattle.mars_tree.specs.Names.{AreDistinct}
 use Rattle.mars_canon.specs.Canon.{Rooted, IsCanon}
 use Rattle.mars_tokens.specs.declared.limits.TheConstants.{NESTING_LIMIT}
 use Rattle.mars_graphs.specs.Systems.{Equation}
-use Rattle.mars_reader.specs.declared.error.ReadError.{ReadError}
-use Rattle.mars_reader.specs.declared.error.ReadError.TheVariants as error
-use Rattle.mars_reader.specs.declared.error.TheConstants.{TEXT_LIMIT}
-use Rattle.mars_reader.specs.ReadTree.{IsReadTree, IsNoTreeText}
+use Rattle.mars_read.specs.declared.error.ReadError.{ReadError}
+use Rattle.mars_read.specs.declared.error.ReadError.TheVariants as error
+use Rattle.mars_read.specs.declared.error.TheConstants.{TEXT_LIMIT}
+use Rattle.mars_read.specs.ReadTree.{IsReadTree, IsNoTreeText}
 use Rattle.mars_print.specs.Text.{text}
 use Rattle.mars_back.specs.Written.{by_number, reference_side, equations_up_to, brackets_open, IsWritable}
 

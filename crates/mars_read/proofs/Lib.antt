@@ -1,19 +1,11 @@
-pub mod Agreeing
-pub mod Assembly
-pub mod Building
-pub mod Complete
-pub mod Defining
-pub mod FirstToken
-pub mod Forms
-pub mod Lexing
-pub mod LimitsAre
-pub mod Naming
-pub mod Passes
-pub mod Placing
-pub mod Refused
-pub mod Rows
-pub mod Standing
-pub mod Steps
-pub mod Trees
-pub mod Views
-pub mod Words
+mod Told
+mod NameFacts
+mod Refusals
+mod Counting
+mod Readings
+mod TreeTerms
+mod TreesMade
+mod InputsMade
+mod GoalsClosed
+mod OneReading
+mod GoalsMade

@@ -1,14 +1,7 @@
--- Promised: inputs, the tokens and the grammar that make them, and what they mean.
-pub mod First
-pub mod Bytes
-pub mod Token
-pub mod Lexed
-pub mod Written
-pub mod Grammar
-pub mod Meaning
--- Inside: the code's own steps, promised to nobody.
-pub mod Built
-pub mod BuiltInside
-pub mod Machine
-pub mod Reading
-pub mod Seen
+-- Promised: what tokens mean, what a maker is told.
+pub mod Spellings
+pub mod Spelled
+pub mod Refused
+pub mod ReadTree
+pub mod ReadInput
+pub mod ReadGoals

@@ -1,14 +1,28 @@
-//! Laws on what a written tree means. Each is the contract of a function that does nothing.
-ghost use Rattle.mars_read.specs.Meaning.{PlacesAgree, TreesAgree};
+//! Laws of reading.
+ghost use Rattle.std.specs.Prelude.{◌≡◌, ◌≢◌, List, ℕ, true};
+ghost use Rattle.mars_grammar.specs.Testing.{starts};
+ghost use Rattle.mars_forms.specs.Table.{forms};
+ghost use Rattle.mars_forms.specs.TableTest.{forms_test};
+ghost use Rattle.mars_forms.specs.declared.symbol.FormSymbol.{FormSymbol as TheSymbol};
+ghost use Rattle.mars_clauses.specs.declared.limits.OverLimit.{OverLimit};
+ghost use Rattle.mars_read.specs.declared.error.ReadError.{ReadError as TheError};
+ghost use Rattle.mars_read.specs.declared.error.ReadError.TheVariants as read_error;
+ghost use Rattle.mars_read.specs.Refused.{IsReadAs, IsRefusedAs};
 
-/// In the graph of a tree two paths show the same exactly where the tree says the same there. So
-/// any two graphs of one tree have the same pairs of places that are alike.
-pub fn places_agree()
-    ensures { PlacesAgree }
-{}
+use mars_forms::Forms;
+use mars_grammar::{Builder, one_refusal, one_value};
+use mars_tokens::one_list_of_tokens;
 
-/// Graphs of two trees without free variables are the same tree exactly where the trees say the
-/// same along every path.
-pub fn trees_agree()
-    ensures { TreesAgree }
-{}
+/// A text is read as one value or has one refusal, and never both; out of memory aside.
+pub fn one_reading<const TWO: bool, B: Builder<Forms<TWO>>>()
+    ensures value { (start : List TheSymbol) (v w x : B.Value) (bytes : List ℕ) → starts (forms TWO) (forms_test TWO) start ≡ true →
+        IsReadAs TWO start B.build v bytes w → IsReadAs TWO start B.build v bytes x → w ≡ x }
+    ensures either { (start : List TheSymbol) (v w : B.Value) (bytes : List ℕ) (over : B.Limit → OverLimit) (e : TheError) →
+        IsReadAs TWO start B.build v bytes w → IsRefusedAs TWO start B.build v bytes over e → e ≡ read_error.NoMemory }
+    ensures refusal { (start : List TheSymbol) (v : B.Value) (bytes : List ℕ) (over : B.Limit → OverLimit) (e f : TheError) → starts (forms TWO) (forms_test TWO) start ≡ true →
+        e ≢ read_error.NoMemory → f ≢ read_error.NoMemory → IsRefusedAs TWO start B.build v bytes over e → IsRefusedAs TWO start B.build v bytes over f → e ≡ f }
+{
+    one_list_of_tokens();
+    one_value::<Forms<TWO>>();
+    one_refusal::<Forms<TWO>, B>();
+}

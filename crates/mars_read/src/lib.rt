@@ -1,22 +1,20 @@
-//! Reading: from the bytes of an input to what they say.
+//! The reader: the meanings of tokens, and the makers that are told them.
 #![tactic(auto)]
 
-mod builder;
-mod bytes;
-mod cursor;
-mod definitions;
-mod first;
+mod error;
+mod goals;
+mod inputs;
 mod laws;
-mod lexer;
-mod limits;
-mod reader;
-mod redirect;
-mod refusal;
-mod terms;
-mod token;
+mod more_names;
+mod reading;
+mod spelled;
+mod spellings;
 
-pub use first::{First, FirstPut};
-pub use laws::{places_agree, trees_agree};
-pub use lexer::one_token_list;
-pub use limits::{ARGUMENT_LIMIT, BRACKET_LIMIT, COMMAND_LIMIT, INPUT_LIMIT, WORD_LIMIT};
-pub use reader::{one_script, read_first};
+pub use error::{ReadError, TEXT_LIMIT, What};
+pub use goals::{goals_are_asks, read_goals};
+pub use inputs::read_input;
+pub use laws::one_reading;
+pub use more_names::MoreNames;
+pub use reading::read_tree;
+pub use spelled::Spelled;
+pub use spellings::{TokenMeanings, TokenRole};

@@ -4,8 +4,8 @@ use Rattle.std.specs.Prelude.{◌⊎◌}
 use Rattle.std.specs.Io.KnownBytes.{IsAtEnd}
 use Rattle.std.proofs.lemmas.Bool.Decides.{nat_tests}
 use Rattle.mars_io.specs.Whole.{HasRead}
-use Rattle.mars_reader.specs.declared.error.TheConstants.{TEXT_LIMIT}
-use Rattle.mars_reader.specs.Refused.{is_too_long}
+use Rattle.mars_read.specs.declared.error.TheConstants.{TEXT_LIMIT}
+use Rattle.mars_read.specs.Refused.{is_too_long}
 use Rattle.marseille.specs.declared.status.Status.{Status}
 use Rattle.marseille.specs.declared.status.Status.TheVariants as status
 use Rattle.marseille.specs.Top.{IsDueWith, IsDueAs}

@@ -1,9 +1,9 @@
 -- The line of an input that is refused.
 use Rattle.std.specs.Prelude.{ℕ, List, [], ◌++◌, codes, decimal}
-use Rattle.mars_reader.specs.declared.error.ReadError.{ReadError}
-use Rattle.mars_reader.specs.declared.error.ReadError.TheVariants as error
-use Rattle.mars_reader.specs.declared.error.What.{What}
-use Rattle.mars_reader.specs.declared.error.What.TheVariants as what
+use Rattle.mars_read.specs.declared.error.ReadError.{ReadError}
+use Rattle.mars_read.specs.declared.error.ReadError.TheVariants as error
+use Rattle.mars_read.specs.declared.error.What.{What}
+use Rattle.mars_read.specs.declared.error.What.TheVariants as what
 
 -- the word of a limit
 abbrev pub limit_word : What → List ℕ

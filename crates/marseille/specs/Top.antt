@@ -4,10 +4,10 @@ use Rattle.std.specs.Io.KnownBytes.{Appends, Consumes, IsAtEnd}
 use Rattle.mars_io.specs.Sink.{AppendsPrefix}
 use Rattle.mars_io.specs.Whole.{HasRead}
 use Rattle.mars_script.specs.declared.script.Input.{Input}
-use Rattle.mars_reader.specs.declared.error.ReadError.{ReadError}
-use Rattle.mars_reader.specs.declared.error.ReadError.TheVariants as why
-use Rattle.mars_reader.specs.declared.error.TheConstants.{TEXT_LIMIT}
-use Rattle.mars_reader.specs.ReadInput.{IsReadInput, IsNoInput}
+use Rattle.mars_read.specs.declared.error.ReadError.{ReadError}
+use Rattle.mars_read.specs.declared.error.ReadError.TheVariants as why
+use Rattle.mars_read.specs.declared.error.TheConstants.{TEXT_LIMIT}
+use Rattle.mars_read.specs.ReadInput.{IsReadInput, IsNoInput}
 use Rattle.marseille.specs.declared.top.DueOutput.{DueOutput}
 use Rattle.marseille.specs.declared.status.Status.{Status}
 use Rattle.marseille.specs.declared.status.Status.TheVariants as status

@@ -1,11 +1,11 @@
 //! The line of an input that is refused.
 ghost use Rattle.std.specs.Prelude.{◌≡◌, ◌≢◌, ◌<◌, ◌++◌, length, IfOk, OnOk, codes};
-ghost use Rattle.mars_reader.specs.declared.error.ReadError.TheVariants as why;
+ghost use Rattle.mars_read.specs.declared.error.ReadError.TheVariants as why;
 ghost use Rattle.marseille.specs.Refusal.{limit_word, place_line, refusal_line};
 
 use itoa::Buffer;
 use mars_base::NoMemory;
-use mars_reader::{ReadError, What};
+use mars_read::{ReadError, What};
 use std::alloc::Global;
 
 /// The word of a limit.

@@ -8,7 +8,7 @@ ghost use Rattle.mars_script.specs.declared.script.Input.{Input};
 ghost use Rattle.mars_script.specs.Words.{texts_of};
 ghost use Rattle.mars_scripts.specs.WellFormed.{IsWellFormedInput};
 ghost use Rattle.mars_scripts.specs.Sizes.{nodes_put};
-ghost use Rattle.mars_reader.specs.ReadInput.{IsReadInput, IsNoInput};
+ghost use Rattle.mars_read.specs.ReadInput.{IsReadInput, IsNoInput};
 ghost use Rattle.marseille.specs.Words.{AreTakenAs};
 ghost use Rattle.marseille.specs.Top.{IsDueFor, IsDueAfter, Runs, Refuses, RefusesWords, IsDue, GetsAll, GetsPart};
 
@@ -19,7 +19,7 @@ use crate::status::{Outcome, Status};
 use crate::words::{Taken, take_words};
 use mars_base::NoMemory;
 use mars_io::{Put, Sink, Source, SourceError, read_whole};
-use mars_reader::{ReadError, TEXT_LIMIT, read_input};
+use mars_read::{ReadError, TEXT_LIMIT, read_input};
 use mars_script::Input;
 use std::alloc::Global;
 

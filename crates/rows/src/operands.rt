@@ -6,7 +6,7 @@ use crate::labels::{label_named, name_at};
 use crate::shapes::{list, ring, tuples};
 use crate::stopping::Stop;
 use mars_base::NoMemory;
-use mars_reader::{ReadError, read_tree};
+use mars_read::{ReadError, read_tree};
 use mars_tree::{Graph, Label, Names};
 use std::alloc::Global;
 

@@ -1,6 +1,6 @@
 //! Refusals of texts.
 use crate::stopping::Stop;
-use mars_reader::{ReadError, What};
+use mars_read::{ReadError, What};
 
 /// Writes a refusal: its number, which limit was passed, and its place.
 pub fn push_refusal(error: ReadError, into: &mut Vec<u8>) -> Result<(), Stop> {

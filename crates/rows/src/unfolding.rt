@@ -37,11 +37,7 @@ fn push_repeated(part: &str, into: &mut String) -> Result<(), AllocError> {
 /// Appends a text with its marks replaced.
 fn push_plain(text: &str, into: &mut String) -> Result<(), AllocError> {
     for (place, part) in text.split('@').enumerate() {
-        let (mark, rest) = if place == 0 {
-            ("", part)
-        } else {
-            marked(part)
-        };
+        let (mark, rest) = if place == 0 { ("", part) } else { marked(part) };
         into.push_str(mark)?;
         into.push_str(rest)?;
     }

@@ -2,7 +2,7 @@
 use mars_base::NoMemory;
 use mars_canon::{Canon, canon};
 use mars_print::print_tree;
-use mars_reader::{ReadError, read_tree};
+use mars_read::{ReadError, read_tree};
 use mars_tree::{Graph, Names};
 use std::alloc::Global;
 

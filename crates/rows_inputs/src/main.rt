@@ -6,7 +6,7 @@ mod counted;
 mod said;
 
 use counted::{push_commands, push_counts, push_names, push_spelled};
-use mars_reader::read_input;
+use mars_read::read_input;
 use mars_script::Input;
 use rows::{Stop, answer_rows, push_refusal, unfolded_text};
 use said::push_input;

@@ -2,7 +2,7 @@
 //! the rows, `stdout` the rows with their answers.
 #![tactic(auto)]
 
-use mars_reader::read_tree;
+use mars_read::read_tree;
 use mars_tree::{Graph, Names};
 use rows::{Stop, answer_rows, canon_of, push_refusal, push_text, unfolded_text};
 use std::alloc::Global;

@@ -1,6 +1,0 @@
-use Rattle.std.proofs.Common.{◌≡◌, ◌++◌, take, drop, map}
-use Rattle.mars_read.specs.Built.{redirected}
-use Rattle.mars_read.proofs.redirect.redirect.Given as goal
-
-abbrev pub invariant-loop-node : goal.invariant-loop-node
-invariant-loop-node l = l.graph ≡ map (redirected l.targets) (take l.node l.initial.graph) ++ drop l.node l.initial.graph

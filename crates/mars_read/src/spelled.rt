@@ -1,0 +1,43 @@
+//! What tells a maker the events of a text, each token with its meaning.
+ghost use Rattle.std.specs.Prelude.{◌≡◌};
+ghost use Rattle.mars_clauses.specs.declared.maker.ValuedToken.{ValuedToken};
+ghost use Rattle.mars_read.specs.Spellings.{spellings_of};
+ghost use Rattle.mars_read.specs.Spelled.{spelled_out};
+
+use crate::TokenMeanings;
+use mars_base::NoMemory;
+use mars_clauses::Maker;
+use mars_forms::{FormAction, FormSymbol, Forms, Lexeme};
+use mars_grammar::Builder;
+
+/// A text with the numbers of its spellings, and a maker that is told its events.
+#[derive(Drop)]
+pub struct Spelled<'a, M> {
+    pub meanings: TokenMeanings<'a>,
+    pub maker: M,
+}
+
+impl<'a, const TWO: bool, M: Maker> Builder<Forms<TWO>> for Spelled<'a, M> {
+    type Limit = M::Limit;
+
+    ghost use Rattle.mars_read.specs.Spellings.{Spellings};
+
+    ghost Value = { Spellings × M.Value };
+
+    ghost view = { λ s. (spellings_of s.meanings, M.view s.maker) };
+
+    ghost build = { spelled_out M.build };
+
+    fn read(&mut self, symbol: FormSymbol, token: Lexeme) -> Result<(), NoMemory> {
+        let meaning = self.meanings.meaning(symbol, token)?;
+        self.maker.read(symbol, meaning)
+    }
+
+    fn say(&mut self, action: FormAction) -> Result<(), NoMemory> {
+        self.maker.say(action)
+    }
+
+    fn refuses(&self) -> Option<M::Limit> {
+        self.maker.refuses()
+    }
+}
