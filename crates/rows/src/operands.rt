@@ -139,9 +139,16 @@ fn operand_of(alloc: Global, head: &[u8], graph: Graph, root: usize) -> Result<O
     }
 }
 
+/// A row has at most so many bytes, and its trees so many names.
+const MOST: usize = 1_000_000_000;
+
 /// Reads one tree: what it says, as a graph with a root.
 fn read_one(alloc: Global, text: &str, names: &mut Names) -> Result<(Graph, usize), Stop> {
-    match read_tree(alloc, text.as_bytes(), names) {
+    let bytes = text.as_bytes();
+    if bytes.len() > MOST || names.len() > MOST {
+        return Err(Stop::TooMany);
+    }
+    match read_tree(alloc, bytes, names) {
         Ok(made) => Ok(made),
         Err(ReadError::NoMemory) => Err(Stop::NoMemory),
         Err(_) => Err(Stop::Refused),

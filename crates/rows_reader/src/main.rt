@@ -26,10 +26,13 @@ fn answer_tree(alloc: Global, rest: &str, into: &mut Vec<u8>) -> Result<(), Stop
     push_tree_of(alloc, text.as_bytes(), into)
 }
 
+/// A text has at most so many bytes, and there are at most so many names.
+const MOST: usize = 1_000_000_000;
+
 /// Writes the tree that bytes say.
 fn push_tree_of(alloc: Global, bytes: &[u8], into: &mut Vec<u8>) -> Result<(), Stop> {
     let mut names = Names::new(alloc);
-    if bytes.len() + names.len() >= u32::MAX as usize {
+    if bytes.len() > MOST || names.len() > MOST {
         return Err(Stop::TooMany);
     }
     match read_tree(alloc, bytes, &mut names) {
