@@ -14,6 +14,7 @@ use Rattle.mars_canon.specs.Canon.{Rooted, IsCanon, HaveAlikeWalks}
 use Rattle.mars_canon.proofs.Forms.{one_form_of_walks}
 use Rattle.mars_graphs.specs.Systems.{EquationSystem, Tip, tip_at, ShowsTip, IsSolution}
 use Rattle.mars_graphs.specs.Systems as system
+use Rattle.mars_back.specs.OneMeaning.{SolutionsKeepWalks}
 
 nothing_some : {s : Shown} → ◌≡◌ {A = Option Shown} None (Some s) → ⊥
 nothing_some e = cc
@@ -160,3 +161,11 @@ one_form s c root is one back h start also d d_is keeps =
       };
     } in
     (one_form_of_walks d c d_is is).1 same
+
+-- two solutions of one system have the same walks
+pub solutions_keep_walks : SolutionsKeepWalks
+solutions_keep_walks s g h root start is also = record {
+  count = refl;
+  shown = same_shown s h start g root also is;
+  alike = λ w v. (same_alike s h start g root also is w v, same_alike s g root h start is also w v);
+}

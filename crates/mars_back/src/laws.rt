@@ -1,4 +1,5 @@
 //! The law of reading back.
+ghost use Rattle.mars_back.specs.OneMeaning.{SolutionsKeepWalks};
 ghost use Rattle.mars_back.specs.ReadBack.{TextsReadBack};
 
 use mars_forms::Forms;
@@ -12,3 +13,8 @@ pub fn texts_read_back()
     one_value::<Forms<true>>();
     same_beginning::<Forms<true>>();
 }
+
+/// Two graphs of one written tree have the same walks from their roots.
+pub fn solutions_keep_walks()
+    ensures { SolutionsKeepWalks }
+{}

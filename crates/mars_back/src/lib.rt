@@ -3,4 +3,4 @@
 
 mod laws;
 
-pub use laws::texts_read_back;
+pub use laws::{solutions_keep_walks, texts_read_back};
