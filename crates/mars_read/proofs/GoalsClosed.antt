@@ -23,7 +23,7 @@ use Rattle.mars_clauses.specs.declared.maker.ValuedToken.{ValuedToken}
 use Rattle.mars_clauses.specs.declared.terms.OpenTerm.{OpenTerm}
 use Rattle.mars_clauses.specs.declared.making.FinishedClause.{FinishedClause}
 use Rattle.mars_clauses.specs.declared.making.FinishedClause.TheVariants as finished_clause
-use Rattle.mars_clauses.specs.Short.{short_number}
+use Rattle.mars_clauses.specs.Short.{in_32_bits}
 use Rattle.mars_clauses.specs.Terms.{Unfinished, number_of, vars_with, given_in, given, with_open, applied_in, with_part, with_var, with_cut, paired_in, with_kept, clause_read, clause_said, ask_made, finished_in, finished_by, finished, headed_in, term_made}
 use Rattle.mars_clauses.specs.Lists.{Clauses, clauses, clauses_from, clauses_event}
 use Rattle.mars_read.specs.Spellings.{Spellings, meaning_of, role_of, with_token}
@@ -56,8 +56,8 @@ paired-open : (rows : List OpenTerm) (n : ℕ) (c : Unfinished) → c.asking ≡
 paired-open [] n c a h e l = record { asking = a; head = h; rows = ap length e ∙ l }
 paired-open (row ∷ outer) n c a h e l = record { asking = a; head = h; rows = l }
 
-kept-open : (b : Bool) (name : NameId) (n : ℕ) (c : Unfinished) → IsOpen n c → IsOpen n (if b then given (Kept (short_number (length c.kept))) (record c { kept = c.kept ++ name ∷ [] }) else c)
-kept-open true name n c o = given-open c.rows (Kept (short_number (length c.kept))) n (record c { kept = c.kept ++ name ∷ [] }) o.asking o.head refl o.rows
+kept-open : (b : Bool) (name : NameId) (n : ℕ) (c : Unfinished) → IsOpen n c → IsOpen n (if b then given (Kept (in_32_bits (length c.kept))) (record c { kept = c.kept ++ name ∷ [] }) else c)
+kept-open true name n c o = given-open c.rows (Kept (in_32_bits (length c.kept))) n (record c { kept = c.kept ++ name ∷ [] }) o.asking o.head refl o.rows
 kept-open false name n c o = o
 
 -- by a number that is the same
@@ -79,7 +79,7 @@ part_opens _ = 1
 
 part-open : (k : TokenKind) (t : ValuedToken) (n : ℕ) (c : Unfinished) → IsOpen n c → IsOpen (n + part_opens k) (with_part k t c)
 part-open kind.Variable t n c o =
-    as-many n (with_var t.name c) (given-open c.rows (Var (short_number (number_of t.name c.vars))) n (record c { vars = vars_with t.name c.vars }) o.asking o.head refl o.rows)
+    as-many n (with_var t.name c) (given-open c.rows (Var (in_32_bits (number_of t.name c.vars))) n (record c { vars = vars_with t.name c.vars }) o.asking o.head refl o.rows)
 part-open kind.Integer t n c o = as-many n (given (Int t.number) c) (given-is (Int t.number) n c o)
 part-open kind.Text t n c o = as-many n (given (Str t.name) c) (given-is (Str t.name) n c o)
 part-open kind.Less t n c o = open-is None n c o

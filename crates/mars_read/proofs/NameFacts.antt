@@ -8,7 +8,7 @@ use Rattle.std.proofs.lemmas.List.{map-append}
 use Rattle.std.proofs.lemmas.List.Quantifiers.{position-Some}
 use Rattle.mars_tree.specs.Names.{place_of, name_number, with_text}
 use Rattle.mars_tree.proofs.NameLemmas.{place_after, place_of-append, place_of-map, known_with-new, list_any-none}
-use Rattle.mars_clauses.specs.Short.{short_number}
+use Rattle.mars_clauses.specs.Short.{in_32_bits}
 use Rattle.mars_read.specs.Spellings.{added_with, with_texts}
 
 pub known-place : (text : List ℕ) (known added : List (List ℕ)) (n : ℕ) → Some n ≡ place_of text known → place_of text (known ++ added) ≡ Some n
@@ -18,14 +18,14 @@ pub known-number : (text : List ℕ) (known added : List (List ℕ)) (n : ℕ) �
 known-number text known added n e = sym (ap (λ o. unwrap_or o (length (known ++ added))) (known-place text known added n e))
 
 -- numbers that 32 bits hold are themselves
-pub short-same : (n : ℕ) → n < 2 ^ 32 → n ≡ short_number n
+pub short-same : (n : ℕ) → n < 2 ^ 32 → n ≡ in_32_bits n
 short-same n few = omega arith
 
 place-within : (text : List ℕ) (names : List (List ℕ)) (n : ℕ) → place_of text names ≡ Some n → n < length names
 place-within text names n e = (position-Some (λ (name : List ℕ). pointwise nat_eq text name) names n [] e).0
 
-pub known-short : (text : List ℕ) (known added : List (List ℕ)) (n : ℕ) → Some n ≡ place_of text known → length known < 2 ^ 32 → n ≡ short_number (name_number text (known ++ added))
-known-short text known added n e few = short-same n (let l = place-within text known n (sym e) in omega (arith, l, few)) ∙ ap short_number (known-number text known added n e)
+pub known-short : (text : List ℕ) (known added : List (List ℕ)) (n : ℕ) → Some n ≡ place_of text known → length known < 2 ^ 32 → n ≡ in_32_bits (name_number text (known ++ added))
+known-short text known added n e few = short-same n (let l = place-within text known n (sym e) in omega (arith, l, few)) ∙ ap in_32_bits (known-number text known added n e)
 
 -- a number is at most the next one
 number-by : (o : Option ℕ) (text : List ℕ) (names : List (List ℕ)) → place_of text names ≡ o → unwrap_or o (length names) ≤ length names
@@ -35,11 +35,11 @@ number-by (Some n) text names e = let l = place-within text names n e in omega (
 pub number-within : (text : List ℕ) (names : List (List ℕ)) → name_number text names ≤ length names
 number-within text names = number-by (place_of text names) text names refl
 
-pub number-found : (text : List ℕ) (names : List (List ℕ)) (n : ℕ) → Some n ≡ place_of text names → length names < 2 ^ 32 → n ≡ short_number (name_number text names)
-number-found text names n e few = short-same n (let l = place-within text names n (sym e) in omega (arith, l, few)) ∙ ap (λ (o : Option ℕ). short_number (unwrap_or o (length names))) e
+pub number-found : (text : List ℕ) (names : List (List ℕ)) (n : ℕ) → Some n ≡ place_of text names → length names < 2 ^ 32 → n ≡ in_32_bits (name_number text names)
+number-found text names n e few = short-same n (let l = place-within text names n (sym e) in omega (arith, l, few)) ∙ ap (λ (o : Option ℕ). in_32_bits (unwrap_or o (length names))) e
 
-pub number-full : (text : List ℕ) (names : List (List ℕ)) → None ≡ place_of text names → 2 ^ 32 - 1 ≤ length names → 2 ^ 32 - 1 ≡ short_number (name_number text names)
-number-full text names e full = let same : short_number (length names) ≡ short_number (name_number text names) = ap (λ (o : Option ℕ). short_number (unwrap_or o (length names))) e in omega (arith, same, full)
+pub number-full : (text : List ℕ) (names : List (List ℕ)) → None ≡ place_of text names → 2 ^ 32 - 1 ≤ length names → 2 ^ 32 - 1 ≡ in_32_bits (name_number text names)
+number-full text names e full = let same : in_32_bits (length names) ≡ in_32_bits (name_number text names) = ap (λ (o : Option ℕ). in_32_bits (unwrap_or o (length names))) e in omega (arith, same, full)
 
 -- one name more at most
 pub with_text-longer : (text : List ℕ) (names : List (List ℕ)) → length (with_text text names) ≤ length names + 1

@@ -11,7 +11,7 @@ use Rattle.mars_tokens.specs.Tokens.{spelling_at}
 use Rattle.mars_tokens.specs.Integers.{integer_value, is_integer_text, is_in_range}
 use Rattle.mars_tokens.specs.Strings.{string_meaning}
 use Rattle.mars_clauses.specs.declared.maker.ValuedToken.{ValuedToken}
-use Rattle.mars_clauses.specs.Short.{short_number}
+use Rattle.mars_clauses.specs.Short.{in_32_bits}
 use Rattle.mars_read.specs.declared.more_names.MoreNames.{MoreNames}
 use Rattle.mars_read.specs.declared.spellings.TokenMeanings.{TokenMeanings}
 use Rattle.mars_read.specs.declared.spellings.TokenRole.{TokenRole}
@@ -54,10 +54,10 @@ with_variable_text text v = record v { vars = with_text_if_room text v.vars }
 
 -- the number of a name, and of a variable that is no name, in 32 bits
 abbrev pub name_in : List ℕ → Spellings → NameId
-name_in text v = record { 0 = short_number (name_number text (all_names v)) }
+name_in text v = record { 0 = in_32_bits (name_number text (all_names v)) }
 
 abbrev pub variable_in : List ℕ → Spellings → NameId
-variable_in text v = record { 0 = short_number (name_number text v.vars) }
+variable_in text v = record { 0 = in_32_bits (name_number text v.vars) }
 
 -- a word that the symbol takes is a name
 abbrev pub takes_names : FormSymbol → Bool

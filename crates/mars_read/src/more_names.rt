@@ -1,7 +1,7 @@
 //! The names that were there before a text, and those that it adds.
 ghost use Rattle.std.specs.Prelude.{◌≡◌, ◌+◌, ◌++◌, [], None, length, IfOk, OnOk};
 ghost use Rattle.mars_tree.specs.Names.{name_number, place_of};
-ghost use Rattle.mars_clauses.specs.Short.{short_number};
+ghost use Rattle.mars_clauses.specs.Short.{in_32_bits};
 ghost use Rattle.mars_read.specs.Spellings.{added_of, added_with};
 
 use indexmap::IndexSet;
@@ -20,7 +20,7 @@ pub struct MoreNames<'a> {
 
 /// The number of a name that was added, in 32 bits.
 fn number_after(first: usize, index: usize) -> NameId
-    ensures { result.0 ≡ short_number (first + index) }
+    ensures { result.0 ≡ in_32_bits (first + index) }
 {
     NameId(short_number(first.saturating_add(index)))
 }
@@ -40,7 +40,7 @@ impl<'a> MoreNames<'a> {
 
     /// The number of a text in 32 bits; it goes last where it is new.
     pub fn id(&mut self, text: &[u8]) -> Result<NameId, NoMemory>
-        ensures place { IfOk result (λ id. id.0 ≡ short_number (name_number text.now (self.old.known.now ++ added_of self.old))) }
+        ensures place { IfOk result (λ id. id.0 ≡ in_32_bits (name_number text.now (self.old.known.now ++ added_of self.old))) }
         ensures known { OnOk result (self.new.known.now ≡ self.old.known.now) }
         ensures added { OnOk result (added_of self.new ≡ added_with text.now self.old.known.now (added_of self.old)) }
     {
@@ -55,7 +55,7 @@ impl<'a> MoreNames<'a> {
     fn added_id(&mut self, first: usize, text: &[u8]) -> Result<NameId, NoMemory>
         requires first { first ≡ length self.old.known.now }
         requires new { place_of text.now self.old.known.now ≡ None }
-        ensures place { IfOk result (λ id. id.0 ≡ short_number (name_number text.now (self.old.known.now ++ added_of self.old))) }
+        ensures place { IfOk result (λ id. id.0 ≡ in_32_bits (name_number text.now (self.old.known.now ++ added_of self.old))) }
         ensures known { OnOk result (self.new.known.now ≡ self.old.known.now) }
         ensures added { OnOk result (added_of self.new ≡ added_with text.now self.old.known.now (added_of self.old)) }
     {

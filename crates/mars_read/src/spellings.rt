@@ -1,7 +1,7 @@
 //! What tokens mean, by their spellings and the symbols that take them.
 ghost use Rattle.std.specs.Prelude.{◌≡◌, IfOk, OnOk, []};
 ghost use Rattle.mars_tree.specs.Names.{name_number, built_in_names};
-ghost use Rattle.mars_clauses.specs.Short.{short_number};
+ghost use Rattle.mars_clauses.specs.Short.{in_32_bits};
 ghost use Rattle.mars_read.specs.Spellings as told;
 ghost use Rattle.mars_read.specs.Spellings.{spellings_of, spellings_from};
 
@@ -115,7 +115,7 @@ fn integer_or(text: &[u8]) -> i64
 
 /// The number of a spelling in 32 bits; it goes last where it is new, unless there are as many as there can be.
 fn variable_number(vars: &mut Names, text: &[u8]) -> Result<NameId, NoMemory>
-    ensures place { IfOk result (λ id. id.0 ≡ short_number (name_number text.now vars.old)) }
+    ensures place { IfOk result (λ id. id.0 ≡ in_32_bits (name_number text.now vars.old)) }
     ensures vars { OnOk result (vars.new ≡ told.with_text_if_room text.now vars.old) }
 {
     if vars.len() < u32::MAX as usize {
