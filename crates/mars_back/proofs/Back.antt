@@ -1,5 +1,5 @@
 -- The text of a graph is read back.
-use Rattle.std.proofs.Common.{◌≡◌, ℕ, zero, suc, ◌<◌, ◌≤◌, ◌^◌, List, [], ◌∷◌, Bool, true, false, Some, None, length, map, All, refl, sym, subst, ap, ◌∙◌, arith, append-nil, inl, inr}
+use Rattle.std.proofs.Common.{◌≡◌, ℕ, zero, suc, ◌+◌, ◌-◌, ◌<◌, ◌≤◌, ◌^◌, List, [], ◌∷◌, Bool, true, false, Some, None, length, map, All, refl, sym, subst, ap, ◌∙◌, arith, append-nil, inl, inr}
 use Rattle.std.proofs.lemmas.Bool.{le-ltb, cases_order}
 use Rattle.std.proofs.lemmas.Fmt.{decimal_injective}
 use Rattle.std.proofs.lemmas.List.Elements.{All-head, recursion_from_All}
@@ -46,6 +46,7 @@ use Rattle.mars_back.proofs.SideTexts.{system_parts_text}
 use Rattle.mars_back.proofs.StepsWritten.{equation_named, AreNewEquations, system_written, system_once}
 use Rattle.mars_back.proofs.Numbers.{Extends, extends_further, extends_text, place_later, placed_with, number_apart}
 use Rattle.mars_back.proofs.Meant.{AreTold, parts_told, parts_kept, system_told_as}
+use Rattle.mars_back.proofs.Few.{tokens_within}
 use Rattle.mars_back.proofs.Solves.{IsApart, solves}
 use Rattle.mars_back.proofs.OneForm.{one_form}
 use Rattle.mars_back.proofs.Quiet.{system_quiet}
@@ -100,7 +101,7 @@ spellings_are (Say a ∷ es) v = spellings_are es (tree_building.perform (Say a)
 abbrev pub TellOne : Type 0
 TellOne = (start : List FormSymbol) (tokens : List Lexeme) (es fs : List (Event FormSymbol Lexeme FormAction)) → starts (forms true) (forms_test true) start ≡ true → IsText (forms true) start tokens es → IsText (forms true) start tokens fs → es ≡ fs
 
-module _ (tell_one : TellOne) (tell_same : TellSame) (names : List (List ℕ)) (c : Rooted) (root : ℕ) (distinct : AreDistinct names) (w : IsWritten names c root) where
+module _ (tell_one : TellOne) (tell_same : TellSame) (names : List (List ℕ)) (c : Rooted) (root : ℕ) (distinct : AreDistinct names) (few : length (text names c) + length names < 2 ^ 32 - 1) (w : IsWritten names c root) where
   abbrev bytes : List ℕ
   bytes = text names c
 
@@ -141,10 +142,15 @@ module _ (tell_one : TellOne) (tell_same : TellSame) (names : List (List ℕ)) (
   text_read = system_read names system is_system mode.Free 0
 
   told_as : AreTold names parts
-  told_as = system_told_as names distinct system is_system
+  told_as = system_told_as names distinct (omega (arith, few)) system is_system
+
+  -- each variable is one of a token, so that there is room for all
+  room : length built_in_names + length (part_lexemes 0 parts) < 2 ^ 32 - 1
+  unfolding built_in_names
+  room = let built_in : length built_in_names ≡ 13 = refl in omega (arith, built_in, tokens_within true 0 0 bytes lexemes None tokens, w.size)
 
   steps_are : steps_told (events_told spellings events) ≡ part_steps naming parts
-  steps_are = parts_told names parts 0 spellings vars told_as (sym parts_are) refl refl (names_extend (length c.nodes) (variables_after parts built_in_names))
+  steps_are = parts_told names parts 0 spellings vars told_as (sym parts_are) refl refl room (names_extend (length c.nodes) (variables_after parts built_in_names))
 
   apart : IsApart naming (length c.nodes)
   apart = names_apart (length c.nodes) (variables_after parts built_in_names) w.count
@@ -185,7 +191,7 @@ module _ (tell_one : TellOne) (tell_same : TellSame) (names : List (List ℕ)) (
         r.names
         ∙ ap (λ (v : TreeValue). all_names v.0) r.read.made ∙ ap all_names (spellings_are r.read.events (tree_begins bytes names))
         ∙ ap (λ (es : List (Event FormSymbol Lexeme FormAction)). all_names (spellings_after spellings es)) events_are
-        ∙ ap all_names (parts_kept names parts 0 spellings told_as (sym parts_are) refl refl)
+        ∙ ap all_names (parts_kept names parts 0 spellings told_as (sym parts_are) refl refl room)
         ∙ append-nil names
 
     same : (d : Rooted) → IsCanon d → KeepsWalks g (start ∷ []) d.nodes d.roots → d ≡ c
@@ -209,4 +215,4 @@ module _ (tell_one : TellOne) (tell_same : TellSame) (names : List (List ℕ)) (
   accepted error.NoMemory p = refl
 
 pub read_back : TellOne → TellSame → TextsReadBack
-read_back one all names c root distinct w = record { names_kept = kept one all names c root distinct w; same = same one all names c root distinct w; accepted = accepted one all names c root distinct w }
+read_back one all names c root distinct few w = record { names_kept = kept one all names c root distinct few w; same = same one all names c root distinct few w; accepted = accepted one all names c root distinct few w }

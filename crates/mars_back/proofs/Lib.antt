@@ -1,5 +1,6 @@
 mod Back
 mod Derived
+mod Few
 mod FirstTokens
 mod LexedSides
 mod Lexing

@@ -1,15 +1,17 @@
 -- Numbers of spellings in lists of names that grow.
-use Rattle.std.proofs.Common.{◌≡◌, ℕ, suc, ◌+◌, ◌<◌, List, [], ◌∷◌, ◌++◌, length, refl, sym, subst, ap, ◌∙◌, arith, Bool, true, false, cond, Option, Some, None, slice_get, is_some, nat_eq, append-nil, append_assoc, if◌then◌else◌}
+use Rattle.std.proofs.Common.{◌≡◌, ℕ, suc, ◌+◌, ◌-◌, ◌^◌, ◌<◌, ◌≤◌, nat_lt, length-append, List, [], ◌∷◌, ◌++◌, length, refl, sym, subst, ap, ◌∙◌, arith, Bool, true, false, cond, Option, Some, None, slice_get, is_some, nat_eq, append-nil, append_assoc, if◌then◌else◌}
 use Rattle.std.specs.Prelude.{unwrap_or}
 use Rattle.std.specs.List.{position_from}
 use Rattle.std.specs.Option.{option_map}
 use Rattle.std.specs.Cmp.Lexicographic.{pointwise}
-use Rattle.std.proofs.lemmas.Bool.Decides.{Decides-eqb}
+use Rattle.std.proofs.lemmas.Bool.Decides.{Decides-eqb, nat_tests}
 use Rattle.std.proofs.lemmas.Iterator.Adapters.{position_from-zero}
 use Rattle.std.proofs.lemmas.Slice.Eq.{slice_eq-Decides}
-use Rattle.std.proofs.lemmas.Option.{slice_get-get_or}
+use Rattle.std.proofs.lemmas.Option.{slice_get-get_or, slice_get_within}
 use Rattle.mars_tree.specs.declared.label.NameId.{NameId}
 use Rattle.mars_tree.specs.Names.{AreDistinct, place_of, name_number, with_text, spelling}
+use Rattle.mars_clauses.specs.Short.{in_32_bits}
+use Rattle.mars_read.specs.Spellings.{with_text_if_room}
 use Rattle.mars_tree.proofs.NameLemmas.{place_after, place_of-append, missing_from}
 
 some_none : (k : ℕ) → ◌≡◌ {A = Option ℕ} None (Some k) → ⊥
@@ -93,3 +95,26 @@ number_apart a b vars i j e f same =
     let one : i ≡ j = sym left ∙ same ∙ right in
     let both : Some a ≡ Some b = sym (place_has a vars i e) ∙ ap (slice_get vars) one ∙ place_has b vars j f in
     cc
+
+-- numbers that 32 bits hold are themselves
+pub short : (n : ℕ) → n < 2 ^ 32 → in_32_bits n ≡ n
+short n few = omega arith
+
+number_by : (o : Option ℕ) (text : List ℕ) (names : List (List ℕ)) → place_of text names ≡ o → unwrap_or o (length names) ≤ length names
+number_by None text names e = omega arith
+number_by (Some n) text names e = let lt : n < length names = slice_get_within names n text (place_has text names n e) in omega (arith, lt)
+
+-- the number of a spelling, where there is room for one more
+pub short_number_of : (text : List ℕ) (names : List (List ℕ)) → length names < 2 ^ 32 - 1 → in_32_bits (name_number text names) ≡ name_number text names
+short_number_of text names room = short (name_number text names) (omega (arith, room, number_by (place_of text names) text names refl))
+
+pub roomy : (text : List ℕ) (names : List (List ℕ)) → length names < 2 ^ 32 - 1 → with_text_if_room text names ≡ with_text text names
+roomy text names room = let yes : nat_lt (length names) (2 ^ 32 - 1) ≡ true = grind (arith, nat_tests, room) in ap (λ (b : Bool). if b then with_text text names else names) yes
+
+-- at most one more
+pub text_longer : (text : List ℕ) (names : List (List ℕ)) → length (with_text text names) ≤ length names + 1
+text_longer text names = at (is_some (place_of text names))
+  where
+    at : (b : Bool) → length (if b then names else names ++ text ∷ []) ≤ length names + 1
+    at true = omega arith
+    at false = omega (arith, length-append names (text ∷ []))

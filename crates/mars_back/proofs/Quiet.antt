@@ -19,9 +19,11 @@ use Rattle.mars_clauses.specs.declared.maker.ValuedToken.{ValuedToken}
 use Rattle.mars_clauses.specs.declared.counts.InputCounts.{InputCounts}
 use Rattle.mars_clauses.specs.declared.counts.TheConstants.{ARITY_LIMIT}
 use Rattle.mars_clauses.specs.declared.limits.InputLimit.TheVariants as limit
+use Rattle.mars_clauses.specs.Short.{in_32_bits}
 use Rattle.mars_clauses.specs.Limits.{count_event, in_brackets, within, nothing_counted, over_if, with_over}
 use Rattle.mars_graphs.specs.Systems.{Side, variable, labelled, Sides, no_sides, next_side, Equation, EquationSystem}
 use Rattle.mars_back.specs.PartsInside.{TextPart, Token, Blank, Left, sign, dot_symbol, side_parts, dot_parts, row_parts, equation_parts, more_parts, where_parts, system_parts}
+use Rattle.mars_back.proofs.Numbers.{short}
 use Rattle.mars_back.proofs.Sides.{IsWrittenSide, AreWrittenSides, side_count, IsWrittenEquation, IsWrittenSystem, no_tuple, IsTermSymbol, put, definition, no_name}
 
 -- a token with its meaning
@@ -72,7 +74,7 @@ dot_counts _ (labelled (label.Tup arity) sides) start name number a o definition
 dot_counts _ (labelled (label.Str text) sides) start name number a o definition = refl
 
 comma_counts : (n : ℕ) (o : List ℕ) (start : ℕ) (name : NameId) (number : ℤ) → n < ARITY_LIMIT → count_event (Read due.PutRow (valued_as kind.Comma start name number)) (quiet n o) ≡ quiet (n + 1) o
-comma_counts n o start name number less = let few : nat_le ARITY_LIMIT n ≡ false = grind (arith, nat_tests) in ap (λ (v : Bool). in_brackets kind.Comma (with_over (over_if v limit.Arity start) (quiet n o))) few
+comma_counts n o start name number less = let few : nat_le ARITY_LIMIT n ≡ false = grind (arith, nat_tests) in ap (λ (v : Bool). in_brackets kind.Comma (with_over (over_if v limit.Arity start) (quiet n o))) few ∙ ap (λ (k : ℕ). quiet k o) (short (n + 1) (let most : ARITY_LIMIT ≡ 16 = refl in omega (arith, less, most)))
 
 module _ (names : List (List ℕ)) where
   mutual
@@ -131,7 +133,8 @@ module _ (names : List (List ℕ)) where
 
   more_quiet : (equations : List Equation) (a : ℕ) → AllByRecursion (IsWrittenEquation names) equations → AreQuiet (more_parts names equations) (quiet a [])
   more_quiet [] a w = tt
-  more_quiet (e ∷ equations) a w = (quiet (a + 1) [], λ start name number. refl, refl, equation_quiet e (more_parts names equations) (a + 1) w.0 (more_quiet equations (a + 1) w.1))
+  more_quiet (e ∷ equations) a w =
+      (quiet (in_32_bits (a + 1)) [], λ start name number. refl, refl, equation_quiet e (more_parts names equations) (in_32_bits (a + 1)) w.0 (more_quiet equations (in_32_bits (a + 1)) w.1))
 
   where_quiet : (equations : List Equation) (a : ℕ) → AllByRecursion (IsWrittenEquation names) equations → AreQuiet (where_parts names equations) (quiet a [])
   where_quiet [] a w = tt

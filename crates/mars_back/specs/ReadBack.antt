@@ -1,5 +1,5 @@
 -- The law of reading back: a text that can be written is read, and what is read is the graph that was printed.
-use Rattle.std.specs.Prelude.{◌≡◌, ◌<◌, ◌≤◌, ◌^◌, ℕ, List, [], ◌∷◌, length, false, All}
+use Rattle.std.specs.Prelude.{◌≡◌, ◌<◌, ◌≤◌, ◌+◌, ◌-◌, ◌^◌, ℕ, List, [], ◌∷◌, length, false, All}
 use Rattle.mars_tree.specs.Graph.{Node}
 use Rattle.mars_tree.specs.Canonical.{KeepsWalks}
 use Rattle.mars_tree.specs.Names.{AreDistinct}
@@ -30,6 +30,6 @@ pub record IsReadBack (names : List (List ℕ)) (c : Rooted) : Type 0 where
   pub same : (new : List (List ℕ)) (g : List Node) (start : ℕ) → IsReadTree (text names c) names new g start → (d : Rooted) → IsCanon d → KeepsWalks g (start ∷ []) d.nodes d.roots → d ≡ c
   pub accepted : (e : ReadError) → IsNoTreeText (text names c) names e → e ≡ error.NoMemory
 
--- each text that is written is read back, under the names that it was printed with
+-- Each text that is written is read back, under the names that it was printed with. Bytes and names are as many as the reader takes.
 abbrev pub TextsReadBack : Type 0
-TextsReadBack = (names : List (List ℕ)) (c : Rooted) (root : ℕ) → AreDistinct names → IsWritten names c root → IsReadBack names c
+TextsReadBack = (names : List (List ℕ)) (c : Rooted) (root : ℕ) → AreDistinct names → length (text names c) + length names < 2 ^ 32 - 1 → IsWritten names c root → IsReadBack names c
