@@ -124,7 +124,7 @@ fn push_ask(names: &Names, ask: &Ask, into: &mut Vec<u8>) -> Result<(), Stop> {
 }
 
 /// Writes names.
-fn push_all(names: &Names, all: &[NameId], into: &mut Vec<u8>) -> Result<(), Stop> {
+pub fn push_all(names: &Names, all: &[NameId], into: &mut Vec<u8>) -> Result<(), Stop> {
     for name in all {
         push_name(names, *name, into)?;
     }
