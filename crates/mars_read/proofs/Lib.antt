@@ -9,3 +9,4 @@ mod InputsMade
 mod GoalsClosed
 mod OneReading
 mod GoalsMade
+pub mod MoreNameFacts

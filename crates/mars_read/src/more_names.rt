@@ -190,7 +190,7 @@ impl<'a> MoreNames<'a> {
 
     /// The names that were added.
     pub(crate) fn into_added(self) -> IndexSet<Vec<u8>>
-        ensures { map (λ text. text.items) result.keys ≡ self.added }
+        ensures { map (λ text. text.items) result.keys ≡ self.entry.added }
     {
         self.added
     }
