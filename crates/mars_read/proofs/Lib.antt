@@ -10,3 +10,4 @@ mod GoalsClosed
 mod OneReading
 mod GoalsMade
 pub mod MoreNameFacts
+pub mod PutTrees

@@ -1,6 +1,5 @@
 -- Places of texts among names that are there already and names that are added, no two of which are the same.
-use Rattle.std.proofs.Common.{◌≡◌, ℕ, ◌+◌, ◌<◌, ◌≤◌, ◌-◌, ◌^◌, List, [], ◌∷◌, ◌++◌, length, map, Option, Some, None, Bool, true, get_or, slice_get, position, nat_eq, refl, sym, ap, ◌∙◌, arith, append_assoc, if◌then◌else◌, is_some}
-use Rattle.std.specs.Prelude.{unwrap_or}
+use Rattle.std.proofs.Common.{◌≡◌, ℕ, ◌+◌, ◌<◌, ◌^◌, List, [], ◌++◌, length, Option, Some, None, Bool, get_or, slice_get, nat_eq, refl, sym, ap, ◌∙◌, arith}
 use Rattle.std.specs.Option.{option_map}
 use Rattle.std.specs.Cmp.Lexicographic.{pointwise}
 use Rattle.std.proofs.lemmas.Option.{slice_get-get_or}
@@ -8,11 +7,9 @@ use Rattle.std.proofs.lemmas.List.Quantifiers.{position-Some}
 use Rattle.std.proofs.lemmas.Bool.Decides.{Decides-eqb}
 use Rattle.std.proofs.lemmas.Slice.Eq.{slice_eq-Decides}
 use Rattle.mars_base.proofs.ListFacts.{get-append_after}
-use Rattle.mars_tree.specs.Names.{place_of, name_number, with_text, AreDistinct}
-use Rattle.mars_tree.proofs.NameLemmas.{place_after, place_of-append, place_of-map, missing_from, none_after}
+use Rattle.mars_tree.specs.Names.{place_of, AreDistinct}
+use Rattle.mars_tree.proofs.NameLemmas.{place_after, place_of-append, missing_from, none_after}
 use Rattle.mars_clauses.specs.Short.{in_32_bits}
-use Rattle.mars_read.specs.NameLists.{NameLists, joined_names}
-use Rattle.mars_read.specs.Spellings.{added_with, with_text_if_room}
 use Rattle.mars_read.proofs.NameFacts.{short-same, place-within}
 
 -- a text that has a place is there

@@ -16,9 +16,9 @@ returns-clause-added c =
     let keys = c.self.inside.added.keys in
     let last = c.in_ok-from_slice.field-0 in
     let missing : None ≡ position (λ x. pointwise nat_eq text x.items) keys =
-        sym (sym (place_of-map text (λ text. text.items) keys) ∙ ap (λ n. place_of text n.added) c.self.view_is ∙ missing-added text now.known now.added c.requires.new) in
+    sym (sym (place_of-map text (λ text. text.items) keys) ∙ ap (λ n. place_of text n.added) c.self.view_is ∙ missing-added text now.known now.added c.requires.new) in
     let grown : c.insert.new.self.keys ≡ keys ++ last ∷ [] =
-        c.in_ok-insert.ensures.keys ∙ ap (λ b. if b then keys else keys ++ last ∷ []) (absent text last.items (λ text. text.items) keys c.in_ok-from_slice.ensures.items missing) in
+    c.in_ok-insert.ensures.keys ∙ ap (λ b. if b then keys else keys ++ last ∷ []) (absent text last.items (λ text. text.items) keys c.in_ok-from_slice.ensures.items missing) in
     ap (map (λ text. text.items)) grown ∙ map-append (λ text. text.items) keys (last ∷ []) ∙
     ap (λ t. map (λ text. text.items) keys ++ t ∷ []) c.in_ok-from_slice.ensures.items ∙ ap (λ n. n.added ++ text ∷ []) c.self.view_is
 
@@ -29,14 +29,14 @@ invariant_of-self-2 c =
     let keys = c.self.inside.added.keys in
     let last = c.in_ok-from_slice.field-0 in
     let missing : None ≡ position (λ x. pointwise nat_eq text x.items) keys =
-        sym (sym (place_of-map text (λ text. text.items) keys) ∙ ap (λ n. place_of text n.added) c.self.view_is ∙ missing-added text now.known now.added c.requires.new) in
+    sym (sym (place_of-map text (λ text. text.items) keys) ∙ ap (λ n. place_of text n.added) c.self.view_is ∙ missing-added text now.known now.added c.requires.new) in
     let grown : c.insert.new.self.keys ≡ keys ++ last ∷ [] =
-        c.in_ok-insert.ensures.keys ∙ ap (λ b. if b then keys else keys ++ last ∷ []) (absent text last.items (λ text. text.items) keys c.in_ok-from_slice.ensures.items missing) in
+    c.in_ok-insert.ensures.keys ∙ ap (λ b. if b then keys else keys ++ last ∷ []) (absent text last.items (λ text. text.items) keys c.in_ok-from_slice.ensures.items missing) in
     let added : map (λ text. text.items) c.insert.new.self.keys ≡ now.added ++ text ∷ [] =
-        ap (map (λ text. text.items)) grown ∙ map-append (λ text. text.items) keys (last ∷ []) ∙
-        ap (λ t. map (λ text. text.items) keys ++ t ∷ []) c.in_ok-from_slice.ensures.items ∙ ap (λ n. n.added ++ text ∷ []) c.self.view_is in
+    ap (map (λ text. text.items)) grown ∙ map-append (λ text. text.items) keys (last ∷ []) ∙
+    ap (λ t. map (λ text. text.items) keys ++ t ∷ []) c.in_ok-from_slice.ensures.items ∙ ap (λ n. n.added ++ text ∷ []) c.self.view_is in
     let joined : known_names c.self.inside.known ++ map (λ text. text.items) c.insert.new.self.keys ≡ joined_names now ++ text ∷ [] =
-        ap (λ names. known_names c.self.inside.known ++ names) added ∙ ap (λ n. n.known ++ (now.added ++ text ∷ [])) c.self.view_is ∙ sym (append_assoc now.known now.added (text ∷ [])) in
+    ap (λ names. known_names c.self.inside.known ++ names) added ∙ ap (λ n. n.known ++ (now.added ++ text ∷ [])) c.self.view_is ∙ sym (append_assoc now.known now.added (text ∷ [])) in
     record {
       first = c.self.invariant.first;
       few = c.self.invariant.few;

@@ -1,4 +1,4 @@
-use Rattle.std.proofs.Common.{ℕ, List, ◌≡◌, ◌+◌, ◌<◌, ◌^◌, Some, ap, sym, subst, refl, ◌∙◌, length}
+use Rattle.std.proofs.Common.{◌+◌, ◌<◌, ◌^◌, Some, ap, sym, subst, refl, ◌∙◌, length}
 use Rattle.std.specs.Option.{option_map}
 use Rattle.mars_tree.specs.Names.{place_of, AreDistinct}
 use Rattle.mars_clauses.specs.Short.{in_32_bits}

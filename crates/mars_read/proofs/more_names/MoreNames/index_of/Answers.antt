@@ -1,4 +1,4 @@
-use Rattle.std.proofs.Common.{ℕ, List, ◌≡◌, ap, sym, subst, ◌∙◌, map, slice_index_or}
+use Rattle.std.proofs.Common.{ap, sym, subst, ◌∙◌, slice_index_or}
 use Rattle.mars_tree.specs.Names.{place_of, AreDistinct}
 use Rattle.mars_tree.proofs.NameLemmas.{place_of-map}
 use Rattle.mars_read.specs.NameLists.{NameLists, joined_names}
