@@ -1,21 +1,20 @@
 -- A run, and the end of an ask, are determined.
-use Rattle.std.proofs.Common.{◌≡◌, ◌≢◌, ℕ, zero, suc, ◌+◌, ◌<◌, ◌≤◌, List, [], ◌∷◌, ◌++◌, length, All, Option, Some, None, refl, sym, ap, ap₂, ◌∙◌, subst, arith, inl, inr, lit≤, replicate}
+use Rattle.std.proofs.Common.{◌≡◌, ◌≢◌, ℕ, zero, suc, ◌<◌, List, [], ◌∷◌, ◌++◌, length, All, Option, None, refl, sym, ap₂, subst, arith, inl, inr, lit≤, replicate}
 use Rattle.std.proofs.lemmas.Bool.{cases_lt}
 use Rattle.std.proofs.lemmas.List.{length-replicate}
 use Rattle.std.proofs.lemmas.List.Elements.{All-nil, All-cons, All-replicate}
-use Rattle.mars_tree.specs.Graph.{Node, IsNode, IsGraph, IsGround, labelled}
+use Rattle.mars_tree.specs.Graph.{Node, IsNode, labelled}
 use Rattle.mars_store.specs.Valuation.{Valuation, IsValuation}
 use Rattle.mars_store.specs.Solutions.{constant}
 use Rattle.mars_term.specs.declared.clause.Ask.{Ask}
 use Rattle.mars_rules.specs.RuleLists.{RuleList}
 use Rattle.mars_machine.specs.declared.ending.Ending.{Ending}
 use Rattle.mars_machine.specs.declared.ending.Ending.TheVariants.{End, Enough, Stopped}
-use Rattle.mars_machine.specs.Subjects.{Subject}
-use Rattle.mars_machine.specs.Equations.{Equations, Solves, AreSolvable, HaveOneTree}
+use Rattle.mars_machine.specs.Equations.{HaveOneTree}
 use Rattle.mars_machine.specs.Alternatives.{Alternative, ask_start}
 use Rattle.mars_machine.specs.Steps.{Says, IsDerivation, IsDerivationStep, IsAskRun}
 use Rattle.mars_machine.specs.Steps.IsDerivation.{begins, goes}
-use Rattle.mars_machine.specs.Asks.{HasEnough, EndsNow, IsAskEnd}
+use Rattle.mars_machine.specs.Asks.{EndsNow, IsAskEnd}
 use Rattle.mars_machine.specs.StepLaws.{IsAlive}
 use Rattle.mars_machine.proofs.Steps.{state_once, state_alive}
 
