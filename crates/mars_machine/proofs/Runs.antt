@@ -19,17 +19,17 @@ use Rattle.mars_machine.specs.StepLaws.{IsAlive}
 use Rattle.mars_machine.proofs.Steps.{state_once, state_alive}
 
 -- a graph of one constant
-abbrev one_node : List Node
+abbrev pub one_node : List Node
 one_node = labelled (constant 0) [] ∷ []
 
 -- each variable is that constant
-abbrev all_same : ℕ → Valuation
+abbrev pub all_same : ℕ → Valuation
 all_same count = record { graph = one_node; nodes = replicate count 0 }
 
 no-leaf : (labelled (constant 0) []).label ≡ None → ⊥
 no-leaf e = cc
 
-all_same_valid : (count : ℕ) → IsValuation count (all_same count)
+pub all_same_valid : (count : ℕ) → IsValuation count (all_same count)
 all_same_valid count = record {
   graph = All-cons (IsNode 1) (labelled (constant 0) []) [] (record { kids = refl; in_range = All-nil (λ kid. kid < 1) }) (All-nil (IsNode 1));
   ground = All-cons (λ node. node.label ≢ None) (labelled (constant 0) []) [] no-leaf (All-nil (λ node. node.label ≢ None));
