@@ -6,3 +6,5 @@ pub mod Terms
 pub mod Growing
 pub mod Variables
 pub mod Copied
+pub mod Matched
+pub mod Answered

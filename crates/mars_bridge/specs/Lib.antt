@@ -5,3 +5,5 @@ pub mod Scoped
 pub mod BridgeLaws
 pub mod WakingLaws
 pub mod TermLaws
+pub mod MatchedLaws
+pub mod AnsweredLaws

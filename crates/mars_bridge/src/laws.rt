@@ -1,5 +1,7 @@
 //! What holds of nodes holds of the terms which they denote.
+ghost use Rattle.mars_bridge.specs.AnsweredLaws.{AnswerDenoted, VariablesDenoted, RootsDenoted};
 ghost use Rattle.mars_bridge.specs.BridgeLaws.{NodeTellsSubject, PairTellsSubjects, DifsTell, EqualRepresented};
+ghost use Rattle.mars_bridge.specs.MatchedLaws.{MatchedRepresents, RefusedUnsolvable};
 ghost use Rattle.mars_bridge.specs.TermLaws.{AlikeTermsSame};
 ghost use Rattle.mars_bridge.specs.Scoped.{MoreNodesKeep, CopiesDenoteRules};
 ghost use Rattle.mars_bridge.specs.WakingLaws.{RootTells, KidsDenoteParts, NumberTells, WakingTells};
@@ -37,4 +39,19 @@ pub fn nodes_keep()
 /// those of the copy the terms of the rule, renamed to the new variables.
 pub fn copies_denote()
     ensures { CopiesDenoteRules }
+{}
+
+/// After a head was matched and the body built the system represents the equations of the call by the rule, and the nodes of
+/// the body denote its goals. Where the head is refused these equations have no solution.
+pub fn calls_represented()
+    ensures matched { MatchedRepresents }
+    ensures refused { RefusedUnsolvable }
+{}
+
+/// The answer graph of nodes is that of the terms that they denote; the nodes of variables denote these, and the roots of an
+/// answer the roots of the terms'.
+pub fn answers_denoted()
+    ensures answer { AnswerDenoted }
+    ensures variables { VariablesDenoted }
+    ensures roots { RootsDenoted }
 {}
