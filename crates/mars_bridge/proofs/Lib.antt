@@ -8,3 +8,4 @@ pub mod Variables
 pub mod Copied
 pub mod Matched
 pub mod Answered
+pub mod Building

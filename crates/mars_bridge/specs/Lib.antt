@@ -7,3 +7,4 @@ pub mod WakingLaws
 pub mod TermLaws
 pub mod MatchedLaws
 pub mod AnsweredLaws
+pub mod BuildingLaws

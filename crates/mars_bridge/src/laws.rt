@@ -1,6 +1,7 @@
 //! What holds of nodes holds of the terms which they denote.
 ghost use Rattle.mars_bridge.specs.AnsweredLaws.{AnswerDenoted, VariablesDenoted, RootsDenoted};
 ghost use Rattle.mars_bridge.specs.BridgeLaws.{NodeTellsSubject, PairTellsSubjects, DifsTell, EqualRepresented};
+ghost use Rattle.mars_bridge.specs.BuildingLaws.{EmptyRepresented, FreeRepresented, FreeDenotes, NodeKeeps, LabelDenotes, KeptDenotes, EqualScoped, CallScoped};
 ghost use Rattle.mars_bridge.specs.MatchedLaws.{MatchedRepresents, RefusedUnsolvable};
 ghost use Rattle.mars_bridge.specs.TermLaws.{AlikeTermsSame};
 ghost use Rattle.mars_bridge.specs.Scoped.{MoreNodesKeep, CopiesDenoteRules};
@@ -54,4 +55,17 @@ pub fn answers_denoted()
     ensures answer { AnswerDenoted }
     ensures variables { VariablesDenoted }
     ensures roots { RootsDenoted }
+{}
+
+/// A system without variables represents no equations; a free node more is a variable more, and any node more keeps what is
+/// represented; a label over nodes of arguments denotes a term, and a kept tree's node its name. Equations stay scoped.
+pub fn nodes_build()
+    ensures empty { EmptyRepresented }
+    ensures variable { FreeRepresented }
+    ensures denotes { FreeDenotes }
+    ensures node { NodeKeeps }
+    ensures label { LabelDenotes }
+    ensures kept { KeptDenotes }
+    ensures equal { EqualScoped }
+    ensures call { CallScoped }
 {}

@@ -1,5 +1,5 @@
 -- The worked rows with rules.
-use Rattle.std.proofs.Common.{◌≡◌, ◌≢◌, ℕ, ℤ, zero, suc, ◌+◌, ◌-◌, ◌<◌, List, [], ◌∷◌, ◌++◌, length, All, Option, Some, None, option_and_then, slice_get, refl, sym, ap, ◌∙◌, subst, arith, lit≤}
+use Rattle.std.proofs.Common.{◌≡◌, ◌≢◌, ℕ, ℤ, zero, suc, ◌<◌, List, [], ◌∷◌, ◌++◌, Some, None, refl, sym, ap, ◌∙◌, arith, lit≤}
 use Rattle.std.specs.Prelude.{pos}
 use Rattle.std.proofs.lemmas.Option.{same_Some}
 use Rattle.std.proofs.lemmas.List.Elements.{All-nil, All-cons, All-head, All-tail}
@@ -11,29 +11,26 @@ use Rattle.mars_store.specs.Valuation.{Valuation, IsValuation, value}
 use Rattle.mars_store.specs.Solutions.{constant}
 use Rattle.mars_term.specs.declared.term.Term.{Term, Var, Int, Name}
 use Rattle.mars_term.specs.declared.clause.Goal.{Goal}
-use Rattle.mars_term.specs.declared.clause.Rule.{Rule}
 use Rattle.mars_term.specs.declared.clause.Version.TheVariants.{One}
-use Rattle.mars_rules.specs.TermTrees.{label_of_term}
 use Rattle.mars_rules.proofs.TermFacts.{label-Name, label-Int, arguments-Int}
-use Rattle.mars_val.specs.declared.operation.Operation.{Operation}
 use Rattle.mars_val.specs.declared.operation.Operation.TheVariants.{Add}
 use Rattle.mars_val.specs.Number.{operation_name, operation_label}
 use Rattle.mars_machine.specs.declared.built_in.BuiltIn.{BuiltIn}
 use Rattle.mars_machine.specs.declared.built_in.BuiltIn.TheVariants.{Eq, Dif, Freeze, Val, Bound, Free, Out, OutText}
 use Rattle.mars_machine.specs.Subjects.{Subject, Renamed, Part, subject_value}
-use Rattle.mars_machine.specs.Equations.{Equations, Solves, AreSolvable, HaveOneTree, Knows, Forces, Implies, with_equality}
+use Rattle.mars_machine.specs.Equations.{Equations, Solves, AreSolvable, HaveOneTree, Knows, Forces}
 use Rattle.mars_machine.specs.Alternatives.{Alternative, OpenGoal, Call, CutTo, ask_start, opened_goals}
-use Rattle.mars_machine.specs.Children.{IsChildUnder, IsRuleChild, AreRuleChildren, called_equations}
+use Rattle.mars_machine.specs.Children.{IsChildUnder, IsRuleChild, called_equations}
 use Rattle.mars_machine.specs.Children.Wakes.{none as wake-none, wakes as wake-wakes, waits as wake-waits}
 use Rattle.mars_machine.specs.Children.AreRuleChildren.{none as no-more, child as one-child, no_child as no-child}
 use Rattle.mars_machine.specs.BuiltIns.{TermNumber, built_in_arity, built_in_label}
 use Rattle.mars_machine.specs.BuiltIns.TermNumber.{itself, applied}
 use Rattle.mars_machine.specs.BuiltIns.IsBuiltInChild.{equal as built-equal, frozen as built-frozen}
-use Rattle.mars_machine.specs.Steps.{Says, nothing, CallsBuiltIn, IsDerivation, IsDerivationStep, IsAskRun}
+use Rattle.mars_machine.specs.Steps.{Says, nothing, CallsBuiltIn, IsDerivation, IsDerivationStep}
 use Rattle.mars_machine.specs.Steps.BuiltInSays.{nothing_said}
 use Rattle.mars_machine.specs.Steps.IsDerivationStep.{cuts, calls, goes_on}
 use Rattle.mars_machine.specs.Steps.IsDerivation.{begins, goes}
-use Rattle.mars_machine.specs.RowTerms.{atom, built_term, built_call}
+use Rattle.mars_machine.specs.RowTerms.{atom, built_call}
 use Rattle.mars_machine.specs.CutRows.{atom_rule, first_rule, cut_rules, ask_cut, frozen_call, equal_call, rr_called, waiting_qq, x_known_equations, qq_called, inner_called, after_cut, endless, CutRows}
 use Rattle.mars_machine.proofs.Values.{value-name, value-argument, value-variable}
 use Rattle.mars_machine.proofs.Steps.{shown-label, forced-once}

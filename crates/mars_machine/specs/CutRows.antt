@@ -1,6 +1,6 @@
 -- Worked rows with rules: a cut in a goal that was woken, and numbers of terms.
-use Rattle.std.specs.Prelude.{◌≡◌, ℕ, ℤ, pos, List, [], ◌∷◌}
-use Rattle.mars_term.specs.declared.term.Term.{Term, Var, Int, Name}
+use Rattle.std.specs.Prelude.{ℕ, ℤ, pos, List, [], ◌∷◌}
+use Rattle.mars_term.specs.declared.term.Term.{Var, Int, Name}
 use Rattle.mars_term.specs.declared.clause.Goal.{Goal}
 use Rattle.mars_term.specs.declared.clause.Goal.TheVariants as goal
 use Rattle.mars_term.specs.declared.clause.Rule.{Rule}
@@ -12,7 +12,7 @@ use Rattle.mars_val.specs.Number.{IsResult, operation_name}
 use Rattle.mars_machine.specs.declared.built_in.BuiltIn.TheVariants.{Eq, Freeze}
 use Rattle.mars_machine.specs.Subjects.{Subject, Renamed, Part}
 use Rattle.mars_machine.specs.Equations.{Equations, with_equality}
-use Rattle.mars_machine.specs.Alternatives.{Alternative, Call, CutTo, ask_start}
+use Rattle.mars_machine.specs.Alternatives.{Alternative, Call, ask_start}
 use Rattle.mars_machine.specs.Children.{called_equations}
 use Rattle.mars_machine.specs.BuiltIns.{TermNumber}
 use Rattle.mars_machine.specs.Steps.{nothing, IsAskRun}
