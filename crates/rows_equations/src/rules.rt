@@ -265,8 +265,7 @@ fn match_goal(
     requires goal_in { goal < length store.old.nodes }
 {
     let mut registers = Vec::new(alloc);
-    let mut kids = Vec::new(alloc);
-    if match_at(alloc, store, rule, goal, &mut registers, &mut kids)? {
+    if match_at(alloc, store, rule, goal, &mut registers)? {
         Ok(Some(last_of(&registers)))
     } else {
         Ok(None)
@@ -280,14 +279,13 @@ fn match_at(
     rule: &Template,
     goal: NodeId,
     registers: &mut Vec<Option<NodeId>>,
-    kids: &mut Vec<NodeId>,
 ) -> Result<bool, NoMemory>
     requires template { IsTemplate rule.now }
     requires goal_in { goal < length store.old.nodes }
 {
-    let matched = match_head(alloc, store, rule, goal, registers, kids)?;
+    let matched = match_head(alloc, store, rule, goal, registers)?;
     if matched {
-        build_body(store, rule, registers, kids)?;
+        build_body(store, rule, registers)?;
     }
     Ok(matched)
 }

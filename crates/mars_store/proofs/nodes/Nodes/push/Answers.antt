@@ -1,6 +1,5 @@
-use Rattle.std.proofs.Common.{◌<◌, ◌+◌, ◌++◌, ◌∷◌, [], ℕ, List, Option, length, arith, ap, ◌∙◌}
+use Rattle.std.proofs.Common.{◌<◌, ◌+◌, ◌++◌, ◌∷◌, [], length, arith, ap, ◌∙◌}
 use Rattle.std.proofs.lemmas.List.Elements.{All-weaker}
-use Rattle.mars_tree.specs.declared.label.Label.{Label}
 use Rattle.mars_tree.specs.Stored.{nodes_of}
 use Rattle.mars_tree.proofs.Laid.{seen-length, seen-push, laid-push, laid_like, put_last}
 use Rattle.mars_store.proofs.nodes.Nodes.push.Goals as goal

@@ -1,7 +1,6 @@
-use Rattle.std.proofs.Common.{◌<◌, ◌+◌, ◌++◌, ◌∷◌, [], ℕ, List, Option, Some, length, map, arith, ap, ◌∙◌, All}
+use Rattle.std.proofs.Common.{◌<◌, ◌+◌, ◌++◌, ◌∷◌, [], Some, length, map, arith, ap, ◌∙◌, All}
 use Rattle.std.proofs.lemmas.List.{length-map}
 use Rattle.std.proofs.lemmas.List.Elements.{All-map, All-weaker}
-use Rattle.mars_tree.specs.declared.label.Label.{Label}
 use Rattle.mars_tree.specs.Stored.{nodes_of}
 use Rattle.mars_tree.proofs.Laid.{seen-length, seen-push, laid-push, laid_like, put_last}
 use Rattle.mars_store.specs.System.{IsNodeAt, node_at}
