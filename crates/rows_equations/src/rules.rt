@@ -265,7 +265,8 @@ fn match_goal(
     requires goal_in { goal < length store.old.nodes }
 {
     let mut registers = Vec::new(alloc);
-    if match_at(alloc, store, rule, goal, &mut registers)? {
+    let mut kids = Vec::new(alloc);
+    if match_at(alloc, store, rule, goal, &mut registers, &mut kids)? {
         Ok(Some(last_of(&registers)))
     } else {
         Ok(None)
@@ -279,13 +280,14 @@ fn match_at(
     rule: &Template,
     goal: NodeId,
     registers: &mut Vec<Option<NodeId>>,
+    kids: &mut Vec<NodeId>,
 ) -> Result<bool, NoMemory>
     requires template { IsTemplate rule.now }
     requires goal_in { goal < length store.old.nodes }
 {
-    let matched = match_head(alloc, store, rule, goal, registers)?;
+    let matched = match_head(alloc, store, rule, goal, registers, kids)?;
     if matched {
-        build_body(store, rule, registers)?;
+        build_body(store, rule, registers, kids)?;
     }
     Ok(matched)
 }
