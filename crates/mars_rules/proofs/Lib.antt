@@ -10,3 +10,4 @@ pub mod RuleParts
 pub mod Laid
 pub mod LaidRules
 pub mod Found
+pub mod Taken
