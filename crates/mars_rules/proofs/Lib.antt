@@ -11,3 +11,4 @@ pub mod Laid
 pub mod LaidRules
 pub mod Found
 pub mod Taken
+pub mod Turned
