@@ -38,7 +38,7 @@ use Rattle.mars_machine.specs.Equations.{Equations, Solves, HaveOneTree, AreSolv
 use Rattle.mars_machine.specs.Children.{called_equations}
 use Rattle.mars_bridge.specs.Represents.{of_vars, Represents, Denotes}
 use Rattle.mars_bridge.specs.Scoped.{UsesBelow, IsScoped, IsTermOver}
-use Rattle.mars_bridge.specs.MatchedLaws.{register_at, register_nodes, IsDenotedGoal, IsCalledBy}
+use Rattle.mars_bridge.specs.MatchedLaws.{register_at, register_nodes, IsHeldGoal, IsCalledBy}
 use Rattle.mars_bridge.proofs.Growing.{denotes_more}
 use Rattle.mars_bridge.proofs.Variables.{within_value, cut-same, cut_solves, last_trees, last_valid, last_value, rule_value, represents_variables, denotes_still, still-value, new-value, earlier-hold}
 use Rattle.mars_bridge.proofs.Copied.{over-parts}
@@ -266,7 +266,7 @@ module _ (e : Equations) (old : System) (vars : List ℕ) (r : Represents e old 
 
     goals-denoted : (goals : List Goal) (places : List FlatGoal) → All (IsRulePart rule.vars) (flat_map parts_of_goal goals)
         → AllPaired (IsFlatGoal nodes flat.template.vars (flat.template.head + 1)) goals places
-        → AllPaired (IsDenotedGoal (called_equations e call rule) new (vars ++ more) e.next after) goals places
+        → AllPaired (IsHeldGoal (called_equations e call rule) new (vars ++ more) e.next after) goals places
     goals-denoted [] [] parts h = tt
     goals-denoted [] (c ∷ places) parts h = absurd h
     goals-denoted (g ∷ goals) [] parts h = absurd h

@@ -27,18 +27,18 @@ abbrev pub register_nodes : List (Option ℕ) → ℕ → List ℕ
 register_nodes registers count = map (register_at registers) (range_with_len 0 count)
 
 -- the node in the register of a goal's place denotes the goal's term, renamed
-abbrev pub IsDenotedGoal : Equations → System → List ℕ → ℕ → List (Option ℕ) → Goal → FlatGoal → Type 0
-IsDenotedGoal e system vars first registers (goal.Call term) (flat.Call place) = (n : ℕ) → HasNode registers place n → Denotes e system vars n (Renamed first term)
-IsDenotedGoal e system vars first registers goal.Cut flat.Cut = Unit {0}
-IsDenotedGoal e system vars first registers goal.Cut (flat.Call place) = ⊥
-IsDenotedGoal e system vars first registers (goal.Call term) flat.Cut = ⊥
+abbrev pub IsHeldGoal : Equations → System → List ℕ → ℕ → List (Option ℕ) → Goal → FlatGoal → Type 0
+IsHeldGoal e system vars first registers (goal.Call term) (flat.Call place) = (n : ℕ) → HasNode registers place n → Denotes e system vars n (Renamed first term)
+IsHeldGoal e system vars first registers goal.Cut flat.Cut = Unit {0}
+IsHeldGoal e system vars first registers goal.Cut (flat.Call place) = ⊥
+IsHeldGoal e system vars first registers (goal.Call term) flat.Cut = ⊥
 
 -- the system represents the equations of a call by a rule; nodes denote what they denoted, and those of the body its goals
 pub record IsCalledBy (e : Equations) (old new : System) (vars : List ℕ) (call : Subject) (rule : Rule) (flat : FlatRule) (registers : List (Option ℕ)) : Type 0 where
   pub represents : Represents (called_equations e call rule) new (vars ++ register_nodes registers rule.vars)
   pub denotes : (n : ℕ) (subject : Subject) → UsesBelow e.next subject → Denotes e old vars n subject
       → Denotes (called_equations e call rule) new (vars ++ register_nodes registers rule.vars) n subject
-  pub body : AllPaired (IsDenotedGoal (called_equations e call rule) new (vars ++ register_nodes registers rule.vars) e.next registers) rule.body flat.goals.items
+  pub body : AllPaired (IsHeldGoal (called_equations e call rule) new (vars ++ register_nodes registers rule.vars) e.next registers) rule.body flat.goals.items
 
 -- a node that denotes a call was matched against the head of a rule, and the body was built
 abbrev pub MatchedRepresents : Type 0
