@@ -7,15 +7,11 @@ use Rattle.std.proofs.lemmas.List.Elements.{All-contains, Contains-append_cases}
 use Rattle.mars_tree.specs.Graph.{Node}
 use Rattle.mars_canon.specs.Tree.{IsTree, most_nodes}
 use Rattle.mars_rows.specs.Rows.{HasRow}
-use Rattle.mars_rows.specs.Object.{TableObject, Interned, empty_table, intern, fresh_before, row_number}
+use Rattle.mars_rows.specs.Object.{TableObject, empty_table, row_number}
 use Rattle.mars_rows.specs.RowsObject.{table_for, add, with_pin, with_tree, without_first}
 use Rattle.mars_rows.specs.RowsObject.Adding.{root, too_many}
 use Rattle.mars_rows.specs.Sound.{IsSound}
-use Rattle.mars_rows.proofs.CallerLemmas.{added_interns}
-use Rattle.mars_rows.proofs.Grown.{fresh_within}
-use Rattle.mars_rows.proofs.Holding.{add_here}
 use Rattle.mars_table.specs.declared.table.Table.TheInside.{Inside}
-use Rattle.mars_table.specs.declared.entry.Handle.{Handle}
 use Rattle.mars_table.specs.declared.entry.Entry.{Entry}
 use Rattle.mars_table.specs.declared.entry.Call.{Call}
 use Rattle.mars_table.specs.declared.entry.Call.TheVariants.{Intern}
@@ -122,50 +118,6 @@ applied p t log e is view reply items = record {
   is_new = subst (λ (s : TableSeen). record { cap = p.cap; history = log } ≡ with_entry s e) view (ap (λ (xs : List Entry). record { cap = p.cap; history = xs }) items);
 }
 
--- a tree whose nodes all have room is kept, as interning says
-pub record IsInterned (t : TableObject) (who : ℕ) (g : List Node) (reply : Reply) : Type 0 where
-  pub number : ℕ
-  pub kept : reply ≡ Kept (record { 0 = number })
-  pub interned : intern t who g ≡ Interned.kept number (after_call t who (Intern g))
-  pub limit : (after_call t who (Intern g)).limit ≡ t.limit
-  pub small : length (after_call t who (Intern g)).rows ≤ length t.rows + length g
-
-pub interns_here : (t : TableObject) (who : ℕ) (g : List Node) (reply : Reply) → IsSound t → IsTree g → length t.rows + length g ≤ t.limit → IsReply t (Intern g) reply → IsInterned t who g reply
-interns_here t who g reply sound is room replied =
-    let number : ℕ = row_number t.rows t.next g 0 in
-    let within : length t.rows + fresh_before t.rows g (length g) ≤ t.limit = omega (arith, room, fresh_within t.rows g (length g)) in
-    let here : add t g ≡ root number (with_tree t g) = add_here t g (grind (arith, nat_tests, within)) in
-    let one = added_interns t g sound (tree_graph g is) room who number (with_tree t g) here in
-    let new : after_call t who (Intern g) ≡ with_pin (with_tree t g) who number = ap (after_adding t who) here in
-    record {
-      number = number;
-      kept = replied ∙ ap (reply_to_adding t.limit) here;
-      interned = one.is ∙ ap (Interned.kept number) (sym new);
-      limit = limit_after t who (Intern g);
-      small = omega (arith, ap (λ (o : TableObject). length o.rows) new, one.rows, fresh_within t.rows g (length g));
-    }
-
 -- rows and pins after a call that was made
 pub object_after : (old new : TableSeen) (who : ℕ) (call : Call) (reply : Reply) → Applied old who call reply new → object_of new ≡ after_call (object_of old) who call
 object_after old new who call reply is = ap object_of is.is_new ∙ after_both (empty_table old.cap) old.history (call_entry who call reply ∷ [])
-
--- what interning a tree that fits makes of a table
-pub record Fitted (old new : TableSeen) (who : ℕ) (g : List Node) (h : Handle) : Type 0 where
-  pub interned : intern (object_of old) who g ≡ Interned.kept h.0 (object_of new)
-  pub limit : (object_of new).limit ≡ (object_of old).limit
-  pub small : length (object_of new).rows ≤ length (object_of old).rows + length g
-
-same_handle : (n : ℕ) (h : Handle) → Kept (record { 0 = n }) ≡ Kept h → n ≡ h.0
-same_handle n h e = let one : record { 0 = n } ≡ h = cc in ap (λ (k : Handle). k.0) one
-
-pub fitted : (old new : TableSeen) (who : ℕ) (g : List Node) (h : Handle) → IsSound (object_of old) → IsTree g → length (object_of old).rows + length g ≤ (object_of old).limit →
-    Applied old who (Intern g) (Kept h) new → Fitted old new who g h
-fitted old new who g h sound is room made =
-    let i = interns_here (object_of old) who g (Kept h) sound is room made.is_reply in
-    let after_it = object_after old new who (Intern g) (Kept h) made in
-    let number : i.number ≡ h.0 = same_handle i.number h (sym i.kept) in
-    record {
-      interned = i.interned ∙ ap (λ n. Interned.kept n (after_call (object_of old) who (Intern g))) number ∙ ap (Interned.kept h.0) (sym after_it);
-      limit = ap (λ (o : TableObject). o.limit) after_it ∙ i.limit;
-      small = omega (arith, ap (λ (o : TableObject). length o.rows) after_it, i.small);
-    }

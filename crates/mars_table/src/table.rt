@@ -1,11 +1,10 @@
 //! The table: rows of trees and the pins of callers on them, with the history of all calls.
-ghost use Rattle.std.specs.Prelude.{◌≡◌, ◌<◌, ◌≤◌, ◌^◌, ◌-◌, ◌+◌, length, IfOk, OnOk, OnErr, IsOk};
+ghost use Rattle.std.specs.Prelude.{◌≡◌, ◌↔◌, ◌<◌, ◌≤◌, ◌^◌, ◌-◌, ◌+◌, length, IfOk, OnOk, OnErr, IsOk, IsTrue, Contains};
 ghost use Rattle.mars_canon.specs.Tree.{IsTree};
-ghost use Rattle.mars_rows.specs.Object.{intern, Interned};
 ghost use Rattle.mars_rows.specs.Sound.{IsSound};
 ghost use Rattle.mars_table.specs.declared.entry.Call.TheVariants.{Intern, Pin, Show, Drop, Sweep, Count};
 ghost use Rattle.mars_table.specs.Calls.{MayCall};
-ghost use Rattle.mars_table.specs.History.{Legal};
+ghost use Rattle.mars_table.specs.History.{Legal, OwnsFor, of};
 ghost use Rattle.mars_table.specs.HistoryLaws.{Live};
 ghost use Rattle.mars_table.specs.TableSeen.{TableSeen, uncalled, object_of, Applied, IsDrop};
 
@@ -62,24 +61,6 @@ impl Table {
             Call::Drop(handle) => Ok(self.unpin(who, handle)),
             Call::Sweep => self.sweep(who),
             Call::Count => self.count(who),
-        }
-    }
-
-    /// Keeps a tree that fits, with a pin of `who` on it: a call of `Intern`, whose reply is never `Full` where there is
-    /// room for all nodes of the tree. `NoMemory` changes nothing.
-    pub fn intern(&mut self, who: u32, tree: Tree) -> Result<Handle, NoMemory>
-        requires { length (object_of self.old).rows + length tree ≤ (object_of self.old).limit }
-        ensures kept { IfOk result
-            (λ handle. intern (object_of self.old) who tree ≡ Interned.kept handle.0 (object_of self.new)) }
-        ensures limit { OnOk result ((object_of self.new).limit ≡ (object_of self.old).limit) }
-        ensures small { OnOk result (length (object_of self.new).rows ≤ length (object_of self.old).rows + length tree) }
-        ensures as_before { OnErr result (self.new ≡ self.old) }
-    {
-        let _count = tree.len();
-        let _counts = self.counts();
-        match self.keep(who, tree)? {
-            Reply::Kept(handle) => Ok(handle),
-            _ => unreachable!(),
         }
     }
 
@@ -198,6 +179,41 @@ impl Table {
         ensures sound { IsSound (object_of self.now) }
     {
         self.rows.counts()
+    }
+
+    /// Whether a caller may make a call: whether it has a pin on the row that the call names. Takes no memory, and time in
+    /// proportion to the pins.
+    pub fn may_call(&self, who: u32, call: &Call) -> bool
+        ensures may { IsTrue result ↔ MayCall (object_of self.now) who call.now }
+        ensures own { IsTrue result ↔ OwnsFor (of self.now.history who) call.now }
+    {
+        // whether it may depends on its own entries alone, since the history is legal
+        let _history = self.history();
+        self.is_open(who, call)
+    }
+
+    /// The same by the table's pins.
+    fn is_open(&self, who: u32, call: &Call) -> bool
+        ensures { IsTrue result ↔ MayCall (object_of self.now) who call.now }
+    {
+        match call {
+            Call::Intern(tree) => {
+                let _count = tree.len();
+                true
+            }
+            Call::Pin(handle) => self.is_pinned(who, *handle),
+            Call::Show(handle) => self.is_pinned(who, *handle),
+            Call::Drop(handle) => self.is_pinned(who, *handle),
+            Call::Sweep => true,
+            Call::Count => true,
+        }
+    }
+
+    /// Whether a caller has a pin on a row.
+    fn is_pinned(&self, who: u32, handle: Handle) -> bool
+        ensures { IsTrue result ↔ Contains (object_of self.now).pins (who, handle.0) }
+    {
+        self.rows.is_pinned(who, handle.0)
     }
 
     /// All calls that were made, with their replies. Takes no memory.

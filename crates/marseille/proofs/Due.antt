@@ -19,8 +19,8 @@ ended : (new : Option (List ℕ)) (bytes : List ℕ) → ((length bytes ≤ TEXT
 ended new bytes (inl both) short = both.1
 ended new bytes (inr long) short = absurd (omega (arith, within_limit bytes short, long))
 
-pub due_after : (old new : Option (List ℕ)) (bytes output : List ℕ) (s : Status) → HasRead TEXT_LIMIT old new bytes → IsDueWith bytes output s → IsDueAs old new output s
-due_after old new bytes output status.Done read is =
+pub due_after : (rows : ℕ) (old new : Option (List ℕ)) (bytes output : List ℕ) (s : Status) → HasRead TEXT_LIMIT old new bytes → IsDueWith rows bytes output s → IsDueAs rows old new output s
+due_after rows old new bytes output status.Done read is =
     record { bytes = bytes; consumed = read.consumed; ended = ended new bytes read.ends is.says.read.short; run = is }
-due_after old new bytes output status.Refused read is = (record { bytes = bytes; read = read; refused = is.0 }, is.1)
-due_after old new bytes output _ read is = absurd is
+due_after rows old new bytes output status.Refused read is = (record { bytes = bytes; read = read; refused = is.0 }, is.1)
+due_after rows old new bytes output _ read is = absurd is

@@ -8,7 +8,7 @@ use Rattle.mars_script.specs.declared.script.Script.{Script}
 use Rattle.mars_script.specs.declared.script.Input.{Input}
 use Rattle.mars_rows.specs.Object.{TableObject, sweep, swept, counts_of}
 use Rattle.marseille.specs.declared.run.PutAnswer.{PutAnswer}
-use Rattle.marseille.specs.declared.run.PutAnswer.TheVariants.{NameTaken, NotGround, TooLarge, Kept}
+use Rattle.marseille.specs.declared.run.PutAnswer.TheVariants.{NameTaken, NotGround, TooLarge, Kept, Full}
 use Rattle.marseille.specs.Built.{commands_run}
 
 -- the line of a session of this name
@@ -26,6 +26,7 @@ put_line names name NameTaken = codes "name taken\n"
 put_line names name NotGround = codes "not ground\n"
 put_line names name (TooLarge count) = codes "too large " ++ decimal count ++ codes "\n"
 put_line names name (Kept h) = codes "kept " ++ spelling names name ++ codes " #" ++ decimal h.0 ++ codes "\n"
+put_line names name (Full rows fresh cap) = codes "full " ++ decimal rows ++ codes " + " ++ decimal fresh ++ codes " > " ++ decimal cap ++ codes "\n"
 
 -- the line of a command; those that aren't run today have none
 abbrev pub line_of : List (List ℕ) → Command → PutAnswer → List ℕ

@@ -4,7 +4,6 @@
 mod built;
 mod refusal;
 mod run;
-mod shelf;
 mod status;
 mod text;
 mod top;

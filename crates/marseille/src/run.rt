@@ -1,25 +1,26 @@
 //! The commands of an input, run one after the other over one table.
-ghost use Rattle.std.specs.Prelude.{◌≡◌, ◌<◌, ◌≤◌, ◌+◌, ◌++◌, [], length, sum_by, All, IfOk, OnOk};
-ghost use Rattle.mars_rows.specs.Object.{empty_table};
-ghost use Rattle.mars_rows.specs.Sound.{IsSound};
+ghost use Rattle.std.specs.Prelude.{◌≡◌, ◌<◌, ◌++◌, [], length, All, IfOk, OnOk};
+ghost use Rattle.mars_reach.specs.Reach.{ReachesNoFree};
+ghost use Rattle.mars_rows.specs.Object.{sweep, swept};
+ghost use Rattle.mars_canon.specs.Tree.{most_nodes};
+ghost use Rattle.mars_rows.specs.TreeGraph.{IsTreeGraphOf};
 ghost use Rattle.mars_scripts.specs.WellFormed.{IsWellFormedCommand, IsWellFormedScript, IsWellFormedInput};
-ghost use Rattle.mars_scripts.specs.Sizes.{nodes_of_command, nodes_of_script, nodes_put};
+ghost use Rattle.mars_table.specs.TableSeen.{uncalled, object_of};
 ghost use Rattle.marseille.specs.Built.{IsBuiltCommand, AreBuilt, commands_run};
 ghost use Rattle.marseille.specs.Run.{IsPutAnswered, put_given, IsRun};
-ghost use Rattle.marseille.specs.RunInside.{IsFormOf, HasAnswered, HaveRun};
-ghost use Rattle.marseille.specs.Text.{session_line};
+ghost use Rattle.marseille.specs.RunInside.{IsFormOf, HasStored, HasAnswered, HaveRun};
+ghost use Rattle.marseille.specs.Text.{session_line, closing_line};
 
-use crate::shelf::Shelf;
 use crate::text::{push_answer, push_counts, push_session};
 use mars_base::NoMemory;
 use mars_canon::{Tree, canon};
 use mars_script::{Command, Input, Script};
-use mars_table::Handle;
+use mars_table::{Call, Handle, Reply, Table};
 use mars_tree::{Graph, NameId, Names};
 use std::alloc::Global;
 
-/// A table has at most so many rows.
-const ROW_LIMIT: u64 = 1_048_576;
+/// The caller's number of the one session.
+const FIRST_SESSION: u32 = 0;
 
 /// What a command answers. Where several refusals hold, the first in this order comes.
 #[derive(Clone, Copy, Debug, PartialEq, Eq)]
@@ -32,9 +33,11 @@ pub enum PutAnswer {
     TooLarge(usize),
     /// The tree is kept under this number.
     Kept(Handle),
+    /// The rows that a sweep would leave and the nodes that would be fresh are together more than the limit.
+    Full { rows: u64, fresh: u64, cap: u64 },
 }
 
-/// The tree of a node, or why the table doesn't take it.
+/// The tree of a node, or why the table isn't asked for it.
 #[derive(Drop)]
 enum Form {
     /// The tree has a free leaf.
@@ -49,7 +52,7 @@ enum Form {
 #[derive(Drop)]
 struct Session {
     given: Vec<NameId>,
-    table: Shelf,
+    table: Table,
 }
 
 /// The one form of a node's tree. It takes as long as `canon`.
@@ -68,6 +71,23 @@ fn form_of(alloc: Global, graph: &Graph, root: usize) -> Result<Form, NoMemory>
     }
 }
 
+/// Interns a tree under a name, where the table has room for it.
+fn store(session: &mut Session, name: NameId, tree: Tree) -> Result<PutAnswer, NoMemory>
+    ensures stored { IfOk result (HasStored session.old.table tree session.new.table) }
+    ensures given { IfOk result (λ answer. session.new.given.items ≡ put_given session.old.given.items name answer) }
+{
+    // a `Tree` may be interned
+    let _count = tree.len();
+    match session.table.apply(FIRST_SESSION, Call::Intern(tree))? {
+        Reply::Kept(handle) => {
+            session.given.push(name)?;
+            Ok(PutAnswer::Kept(handle))
+        }
+        Reply::Full { rows, fresh, cap } => Ok(PutAnswer::Full { rows, fresh, cap }),
+        _ => unreachable!(),
+    }
+}
+
 /// Runs the command that puts a tree under a name.
 fn run_put(
     alloc: Global,
@@ -76,15 +96,10 @@ fn run_put(
     graph: &Graph,
     root: usize,
 ) -> Result<PutAnswer, NoMemory>
-    requires root { root < length graph.now }
-    requires room { length session.old.table.rows + length graph.now ≤ session.old.table.limit }
-    requires sound { IsSound session.old.table }
+    requires { root < length graph.now }
     ensures answered { IfOk result (λ answer.
         IsPutAnswered session.old.given.items session.old.table name graph.now root answer session.new.table) }
     ensures given { IfOk result (λ answer. session.new.given.items ≡ put_given session.old.given.items name answer) }
-    ensures sound { OnOk result (IsSound session.new.table) }
-    ensures small { OnOk result
-        (length session.new.table.rows ≤ length session.old.table.rows + length graph.now) }
 {
     if session.given.contains(&name) {
         return Ok(PutAnswer::NameTaken);
@@ -92,11 +107,7 @@ fn run_put(
     match form_of(alloc, graph, root)? {
         Form::Free => Ok(PutAnswer::NotGround),
         Form::Large(count) => Ok(PutAnswer::TooLarge(count)),
-        Form::Small(tree) => {
-            let handle = session.table.intern(0, tree)?;
-            session.given.push(name)?;
-            Ok(PutAnswer::Kept(handle))
-        }
+        Form::Small(tree) => store(session, name, tree),
     }
 }
 
@@ -110,8 +121,6 @@ fn run_command(
 ) -> Result<(), NoMemory>
     requires built { IsBuiltCommand command.now }
     requires formed { IsWellFormedCommand command.now }
-    requires room { length session.old.table.rows + nodes_of_command command.now ≤ session.old.table.limit }
-    requires sound { IsSound session.old.table }
     ensures { OnOk result (HasAnswered names.now session.old.given.items session.old.table text.old.items command.now
         session.new.given.items session.new.table text.new.items) }
 {
@@ -124,9 +133,10 @@ fn run_command(
     }
 }
 
-/// Runs commands, and writes their lines.
+/// Runs commands from a table on that was never called and has this limit, and writes their lines.
 fn run_commands(
     alloc: Global,
+    rows: u64,
     session: &mut Session,
     names: &Names,
     commands: &[Command],
@@ -134,12 +144,10 @@ fn run_commands(
 ) -> Result<(), NoMemory>
     requires built { All IsBuiltCommand commands.now }
     requires formed { All IsWellFormedCommand commands.now }
-    requires table { session.old.table ≡ empty_table ROW_LIMIT }
+    requires table { session.old.table ≡ uncalled rows }
     requires given { session.old.given.items ≡ [] }
-    requires sound { IsSound session.old.table }
-    requires room { sum_by nodes_of_command commands.now ≤ ROW_LIMIT }
     ensures { OnOk result
-        (HaveRun names.now text.old.items commands.now session.new.given.items session.new.table text.new.items) }
+        (HaveRun rows names.now text.old.items commands.now session.new.given.items session.new.table text.new.items) }
 {
     for command in commands {
         run_command(alloc, session, names, command, text)?;
@@ -147,9 +155,10 @@ fn run_commands(
     Ok(())
 }
 
-/// Runs the one session, where there is one, and writes its lines.
+/// Runs the one session, where there is one, from a table on that was never called, and writes its lines.
 fn run_scripts(
     alloc: Global,
+    rows: u64,
     session: &mut Session,
     names: &Names,
     scripts: &[Script],
@@ -157,42 +166,78 @@ fn run_scripts(
 ) -> Result<(), NoMemory>
     requires built { AreBuilt scripts.now }
     requires formed { All IsWellFormedScript scripts.now }
-    requires table { session.old.table ≡ empty_table ROW_LIMIT }
+    requires table { session.old.table ≡ uncalled rows }
     requires given { session.old.given.items ≡ [] }
-    requires sound { IsSound session.old.table }
-    requires room { sum_by nodes_of_script scripts.now ≤ ROW_LIMIT }
-    ensures { OnOk result (HaveRun names.now (text.old.items ++ session_line names.now scripts.now)
+    ensures { OnOk result (HaveRun rows names.now (text.old.items ++ session_line names.now scripts.now)
         (commands_run scripts.now) session.new.given.items session.new.table text.new.items) }
 {
     match scripts {
         [script] => {
             push_session(text, names, script.name)?;
-            run_commands(alloc, session, names, script.commands.as_slice(), text)
+            run_commands(
+                alloc,
+                rows,
+                session,
+                names,
+                script.commands.as_slice(),
+                text,
+            )
         }
         _ => Ok(()),
     }
 }
 
-/// The text of the run of an input.
-pub(crate) fn run(alloc: Global, input: &Input) -> Result<Vec<u8>, NoMemory>
+/// Sweeps the table for a caller; gives how many rows went.
+fn sweep(table: &mut Table, who: u32) -> Result<u64, NoMemory>
+    ensures gone { IfOk result (λ gone. gone ≡ swept (object_of table.old)) }
+    ensures left { OnOk result (object_of table.new ≡ sweep (object_of table.old)) }
+{
+    match table.apply(who, Call::Sweep)? {
+        Reply::Swept(gone) => Ok(gone),
+        _ => unreachable!(),
+    }
+}
+
+/// Counts the rows and the pins of the table for a caller.
+fn count(table: &mut Table, who: u32) -> Result<(u64, u64), NoMemory>
+    ensures { IfOk result (λ counts. (counts.0 ≡ length (object_of table.old).rows) × (counts.1 ≡ length (object_of table.old).pins)) }
+{
+    match table.apply(who, Call::Count)? {
+        Reply::Counted { rows, pins } => Ok((rows, pins)),
+        _ => unreachable!(),
+    }
+}
+
+/// Makes the closing calls for a caller, and writes their line.
+fn close(table: &mut Table, who: u32, text: &mut Vec<u8>) -> Result<(), NoMemory>
+    ensures { OnOk result (text.new.items ≡ text.old.items ++ closing_line (object_of table.old)) }
+{
+    let gone = sweep(table, who)?;
+    let (rows, pins) = count(table, who)?;
+    push_counts(text, gone, rows, pins)
+}
+
+/// The caller's number of the program: the one after the sessions'.
+fn closer_of(scripts: &[Script]) -> u32 {
+    match scripts {
+        [] => FIRST_SESSION,
+        _ => FIRST_SESSION + 1,
+    }
+}
+
+/// The text of the run of an input over a table of at most so many rows.
+pub(crate) fn run(alloc: Global, rows: u64, input: &Input) -> Result<Vec<u8>, NoMemory>
     requires built { AreBuilt input.now.sessions }
     requires formed { IsWellFormedInput input.now }
-    requires room { nodes_put input.now ≤ ROW_LIMIT }
-    ensures { IfOk result (λ text. IsRun input.now text.items) }
+    ensures { IfOk result (λ text. IsRun rows input.now text.items) }
 {
     let mut text = Vec::new(alloc);
     let mut session = Session {
         given: Vec::new(alloc),
-        table: Shelf::new(alloc, ROW_LIMIT),
+        table: Table::new(alloc, rows),
     };
-    run_scripts(
-        alloc,
-        &mut session,
-        &input.names,
-        input.sessions.as_slice(),
-        &mut text,
-    )?;
-    let (rows, pins) = session.table.counts();
-    push_counts(&mut text, 0, rows, pins)?;
+    let scripts = input.sessions.as_slice();
+    run_scripts(alloc, rows, &mut session, &input.names, scripts, &mut text)?;
+    close(&mut session.table, closer_of(scripts), &mut text)?;
     Ok(text)
 }

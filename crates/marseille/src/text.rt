@@ -1,7 +1,7 @@
 //! The lines that the program writes.
 ghost use Rattle.std.specs.Prelude.{◌≡◌, ◌++◌, OnOk, codes, decimal};
 ghost use Rattle.mars_tree.specs.Names.{spelling};
-ghost use Rattle.marseille.specs.declared.run.PutAnswer.TheVariants.{Kept};
+ghost use Rattle.marseille.specs.declared.run.PutAnswer.TheVariants.{Kept, Full};
 ghost use Rattle.marseille.specs.Text.{name_line, put_line, counts_line};
 
 use crate::run::PutAnswer;
@@ -63,6 +63,21 @@ fn push_kept(
     Ok(())
 }
 
+/// Writes the line of a table that is full.
+fn push_full(text: &mut Vec<u8>, rows: u64, fresh: u64, cap: u64) -> Result<(), NoMemory>
+    ensures { OnOk result (text.new.items ≡ text.old.items ++ codes "full " ++ decimal rows ++ codes " + " ++ decimal fresh ++ codes " > " ++ decimal cap ++ codes "\n") }
+{
+    let mut buffer = Buffer::new();
+    text.extend_from_slice(b"full ")?;
+    text.extend_from_slice(buffer.format(rows).as_bytes())?;
+    text.extend_from_slice(b" + ")?;
+    text.extend_from_slice(buffer.format(fresh).as_bytes())?;
+    text.extend_from_slice(b" > ")?;
+    text.extend_from_slice(buffer.format(cap).as_bytes())?;
+    text.extend_from_slice(b"\n")?;
+    Ok(())
+}
+
 /// Writes the line of a command.
 pub(crate) fn push_answer(
     text: &mut Vec<u8>,
@@ -77,6 +92,7 @@ pub(crate) fn push_answer(
         PutAnswer::NotGround => text.extend_from_slice(b"not ground\n")?,
         PutAnswer::TooLarge(count) => push_too_large(text, count)?,
         PutAnswer::Kept(handle) => push_kept(text, names, name, handle)?,
+        PutAnswer::Full { rows, fresh, cap } => push_full(text, rows, fresh, cap)?,
     }
     Ok(())
 }

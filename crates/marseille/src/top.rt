@@ -7,9 +7,8 @@ ghost use Rattle.mars_io.specs.Whole.{TakesAtMost};
 ghost use Rattle.mars_script.specs.declared.script.Input.{Input};
 ghost use Rattle.mars_script.specs.Words.{texts_of};
 ghost use Rattle.mars_scripts.specs.WellFormed.{IsWellFormedInput};
-ghost use Rattle.mars_scripts.specs.Sizes.{nodes_put};
 ghost use Rattle.mars_read.specs.ReadInput.{IsReadInput, IsNoInput};
-ghost use Rattle.marseille.specs.Words.{AreTakenAs};
+ghost use Rattle.marseille.specs.Words.{AreRunWith, AreRun};
 ghost use Rattle.marseille.specs.Top.{IsDueFor, IsDueAfter, Runs, Refuses, RefusesWords, IsDue, GetsAll, GetsPart};
 
 use crate::built::are_built;
@@ -30,11 +29,10 @@ struct DueOutput {
     output: Vec<u8>,
 }
 
-/// The output of an input that is read.
-fn run_read(alloc: Global, input: &Input) -> Result<DueOutput, NoMemory>
-    requires formed { IsWellFormedInput input.now }
-    requires room { nodes_put input.now ≤ TEXT_LIMIT }
-    ensures { (bytes : List ℕ) → IsReadInput bytes input.now → IfOk result (IsDueFor bytes) }
+/// The output of an input that is read, over a table of at most so many rows.
+fn run_read(alloc: Global, rows: u64, input: &Input) -> Result<DueOutput, NoMemory>
+    requires { IsWellFormedInput input.now }
+    ensures { (bytes : List ℕ) → IsReadInput bytes input.now → IfOk result (IsDueFor rows bytes) }
 {
     if !are_built(input.sessions.as_slice()) {
         return Ok(DueOutput {
@@ -44,13 +42,13 @@ fn run_read(alloc: Global, input: &Input) -> Result<DueOutput, NoMemory>
     }
     Ok(DueOutput {
         status: Status::Done,
-        output: run(alloc, input)?,
+        output: run(alloc, rows, input)?,
     })
 }
 
 /// The output of an input that is refused.
 fn refuse(alloc: Global, error: ReadError) -> Result<DueOutput, NoMemory>
-    ensures { (bytes : List ℕ) → IsNoInput bytes error → IfOk result (IsDueFor bytes) }
+    ensures { (rows : ℕ) (bytes : List ℕ) → IsNoInput bytes error → IfOk result (IsDueFor rows bytes) }
 {
     Ok(DueOutput {
         status: Status::Refused,
@@ -58,24 +56,24 @@ fn refuse(alloc: Global, error: ReadError) -> Result<DueOutput, NoMemory>
     })
 }
 
-/// The output that the bytes of an input give.
-fn run_input(alloc: Global, bytes: &[u8]) -> Result<DueOutput, NoMemory>
-    ensures { IfOk result (IsDueFor bytes.now) }
+/// The output that the bytes of an input give, over a table of at most so many rows.
+fn run_input(alloc: Global, rows: u64, bytes: &[u8]) -> Result<DueOutput, NoMemory>
+    ensures { IfOk result (IsDueFor rows bytes.now) }
 {
     match read_input(alloc, bytes) {
-        Ok(input) => run_read(alloc, &input),
+        Ok(input) => run_read(alloc, rows, &input),
         Err(error) => refuse(alloc, error),
     }
 }
 
 /// Reads the source to its end, and gives the output of what it says.
-fn run_source<S: Source>(alloc: Global, source: &mut S) -> Result<DueOutput, SourceError>
-    ensures due { IfOk result (IsDueAfter (S.left source.old) (S.left source.new)) }
+fn run_source<S: Source>(alloc: Global, rows: u64, source: &mut S) -> Result<DueOutput, SourceError>
+    ensures due { IfOk result (IsDueAfter rows (S.left source.old) (S.left source.new)) }
     ensures taken { TakesAtMost (TEXT_LIMIT + 1) (S.left source.old) (S.left source.new) }
     ensures failed { result ≡ Err SourceError.Failed → Rose (S.faults source.old) (S.faults source.new) }
 {
     let bytes = read_whole(alloc, source, TEXT_LIMIT)?;
-    Ok(run_input(alloc, &bytes)?)
+    Ok(run_input(alloc, rows, &bytes)?)
 }
 
 /// Writes an output. The status is the one that is due, or that of a fault.
@@ -95,20 +93,20 @@ fn say<K: Sink>(sink: &mut K, output: &[u8], due: Status) -> Outcome
     }
 }
 
-/// Does all that the program does with words that it runs: reads the source to its end, runs the input's commands, and
-/// writes their output to the sink.
-fn run_words<S: Source, K: Sink>(alloc: Global, source: &mut S, sink: &mut K) -> Outcome
-    ensures done { result.status ≡ Status.Done → GetsAll (Runs (S.left source.old) (S.left source.new)) (K.got sink.old) (K.got sink.new) }
+/// Does all that the program does with words that it runs: reads the source to its end, runs the input's commands over a
+/// table of at most so many rows, and writes their output to the sink.
+fn run_words<S: Source, K: Sink>(alloc: Global, rows: u64, source: &mut S, sink: &mut K) -> Outcome
+    ensures done { result.status ≡ Status.Done → GetsAll (Runs rows (S.left source.old) (S.left source.new)) (K.got sink.old) (K.got sink.new) }
     ensures refused { result.status ≡ Status.Refused → GetsAll (Refuses (S.left source.old) (S.left source.new)) (K.got sink.old) (K.got sink.new) }
     ensures words { result.status ≢ Status.Words }
     ensures memory { result.status ≡ Status.Memory → K.got sink.new ≡ K.got sink.old }
     ensures read { result.status ≡ Status.Read → Rose (S.faults source.old) (S.faults source.new)
         × (K.got sink.new ≡ K.got sink.old) }
     ensures write { result.status ≡ Status.Write → Rose (K.faults sink.old) (K.faults sink.new)
-        × GetsPart (λ output. Runs (S.left source.old) (S.left source.new) output ⊎ Refuses (S.left source.old) (S.left source.new) output) (K.got sink.old) (K.got sink.new) }
+        × GetsPart (λ output. Runs rows (S.left source.old) (S.left source.new) output ⊎ Refuses (S.left source.old) (S.left source.new) output) (K.got sink.old) (K.got sink.new) }
     ensures taken { TakesAtMost (TEXT_LIMIT + 1) (S.left source.old) (S.left source.new) }
 {
-    match run_source(alloc, source) {
+    match run_source(alloc, rows, source) {
         Ok(due) => say(sink, &due.output, due.status),
         Err(SourceError::NoMemory) => Outcome {
             status: Status::Memory,
@@ -128,12 +126,12 @@ pub fn marseille_alone<S: Source, K: Sink>(
     sink: &mut K,
 ) -> Outcome
     // Status 0: the words are accepted and plain, the source was read to its end, its bytes are an input of which all is
-    // built, and the sink got the output of its run.
-    ensures done { result.status ≡ Status.Done → AreTakenAs (texts_of words.now) Taken.Run
-        × GetsAll (Runs (S.left source.old) (S.left source.new)) (K.got sink.old) (K.got sink.new) }
+    // built, and the sink got the output of its run over a table of at most as many rows as the words say.
+    ensures done { result.status ≡ Status.Done → (rows : ℕ) × AreRunWith (texts_of words.now) rows
+        × GetsAll (Runs rows (S.left source.old) (S.left source.new)) (K.got sink.old) (K.got sink.new) }
     // Status 1: the words are accepted and plain, and the bytes read are refused, or an input of which not all is built;
     // the sink got the line that says so.
-    ensures refused { result.status ≡ Status.Refused → AreTakenAs (texts_of words.now) Taken.Run
+    ensures refused { result.status ≡ Status.Refused → AreRun (texts_of words.now)
         × GetsAll (Refuses (S.left source.old) (S.left source.new)) (K.got sink.old) (K.got sink.new) }
     // Status 2: the words aren't accepted, or aren't plain, and the sink got the line that says so.
     ensures words { result.status ≡ Status.Words → GetsAll (RefusesWords (texts_of words.now)) (K.got sink.old) (K.got sink.new) }
@@ -146,15 +144,15 @@ pub fn marseille_alone<S: Source, K: Sink>(
     ensures write { result.status ≡ Status.Write → Rose (K.faults sink.old) (K.faults sink.new)
         × GetsPart (IsDue (texts_of words.now) (S.left source.old) (S.left source.new)) (K.got sink.old) (K.got sink.new) }
     // Where the words aren't run, the status is 2, or 3 where there is no memory, or 5 where the sink fails.
-    ensures words_alone { (AreTakenAs (texts_of words.now) Taken.Run → ⊥) →
+    ensures words_alone { (AreRun (texts_of words.now) → ⊥) →
         (result.status ≡ Status.Words) ⊎ ((result.status ≡ Status.Memory) ⊎ (result.status ≡ Status.Write)) }
     // Where the words aren't run, the source is as it was.
-    ensures untouched { (AreTakenAs (texts_of words.now) Taken.Run → ⊥) → source.new ≡ source.old }
+    ensures untouched { (AreRun (texts_of words.now) → ⊥) → source.new ≡ source.old }
     // No more than the limit and one byte was taken from the source, whatever the status.
     ensures taken { TakesAtMost (TEXT_LIMIT + 1) (S.left source.old) (S.left source.new) }
 {
     match take_words(alloc, words) {
-        Ok(Taken::Run) => run_words(alloc, source, sink),
+        Ok(Taken::Run(rows)) => run_words(alloc, rows, source, sink),
         Ok(Taken::Unbuilt) => say(sink, b"words unbuilt\n", Status::Words),
         Ok(Taken::Refused) => say(sink, b"words refused\n", Status::Words),
         Err(_) => Outcome {

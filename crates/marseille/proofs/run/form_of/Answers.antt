@@ -32,10 +32,8 @@ returns-in-Some c =
     let g = c.args.graph.now in
     let root = c.args.root in
     let keeps = c.in_ok-canon.ensures.keeps in
-    let fits = rw c.in-Some.is at c.in_ok-tree.ensures in
-    let small = c.in_ok-canon.ensures.small in (
+    let fits = rw c.in-Some.is at c.in_ok-tree.ensures in (
       reaches_no_free g root c.in_ok-canon.canon is keeps ground,
       subst (IsTreeGraphOf g root) (sym fits.1) (is_tree_of g root c.in_ok-canon.canon is keeps ground),
       omega (arith, fits.0.few, ap length fits.1),
-      omega (arith, small, ap length fits.1),
     )
