@@ -1,12 +1,21 @@
-//! Answers rows on the reader of trees: the text of the tree that a text says, or its refusal with its place. `stdin` has
+//! Answers rows on the reader: what an input, a tree or the goals of an ask say, or the refusal with its place. `stdin` has
 //! the rows, `stdout` the rows with their answers.
 #![tactic(auto)]
 
-use mars_read::read_tree;
-use mars_tree::{Graph, Names};
-use rows::{Stop, answer_rows, canon_of, push_refusal, push_text, unfolded_text};
+mod counted;
+mod said;
+mod terms;
+mod trees;
+
+use counted::{push_commands, push_counts, push_names, push_spelled};
+use mars_read::read_input;
+use mars_script::Input;
+use rows::{Stop, answer_rows, push_refusal, unfolded_text};
+use said::push_input;
 use std::alloc::Global;
 use std::io;
+use terms::push_clauses;
+use trees::{answer_goals, answer_tree};
 
 fn main(rt: HostRuntime) -> io::Result<()> {
     answer_rows(&rt, answer)
@@ -14,41 +23,31 @@ fn main(rt: HostRuntime) -> io::Result<()> {
 
 /// The answer of a row, by its first word.
 fn answer(alloc: Global, word: &str, rest: &str, into: &mut Vec<u8>) -> Result<(), Stop> {
-    match word {
-        "tree" => answer_tree(alloc, rest, into),
-        _ => Err(Stop::NoRow),
-    }
-}
-
-/// Reads the text of a tree, and writes the tree.
-fn answer_tree(alloc: Global, rest: &str, into: &mut Vec<u8>) -> Result<(), Stop> {
     let text = unfolded_text(alloc, rest)?;
-    push_tree_of(alloc, text.as_bytes(), into)
+    match word {
+        "tree" => answer_tree(alloc, text.as_bytes(), into),
+        "goals" => answer_goals(alloc, text.as_bytes(), into),
+        _ => answer_text(alloc, word, text.as_bytes(), into),
+    }
 }
 
-/// A text has at most so many bytes, and there are at most so many names.
-const MOST: usize = 1_000_000_000;
-
-/// Writes the tree that bytes say.
-fn push_tree_of(alloc: Global, bytes: &[u8], into: &mut Vec<u8>) -> Result<(), Stop> {
-    let mut names = Names::new(alloc);
-    if bytes.len() > MOST || names.len() > MOST {
-        return Err(Stop::TooMany);
-    }
-    match read_tree(alloc, bytes, &mut names) {
-        Ok((graph, root)) => push_read(alloc, &names, &graph, root, into),
+/// Reads an input, and answers, or writes the refusal.
+fn answer_text(alloc: Global, word: &str, bytes: &[u8], into: &mut Vec<u8>) -> Result<(), Stop> {
+    match read_input(alloc, bytes) {
+        Ok(input) => answer_input(alloc, word, &input, into),
         Err(error) => push_refusal(error, into),
     }
 }
 
-/// Writes the tree of a node.
-fn push_read(
-    alloc: Global,
-    names: &Names,
-    graph: &Graph,
-    root: usize,
-    into: &mut Vec<u8>,
-) -> Result<(), Stop> {
-    let canon = canon_of(alloc, graph, &[root])?;
-    push_text(names, &canon, into)
+/// Answers a row whose input was read.
+fn answer_input(alloc: Global, word: &str, input: &Input, into: &mut Vec<u8>) -> Result<(), Stop> {
+    match word {
+        "input" => push_input(alloc, input, into),
+        "clauses" => push_clauses(alloc, input, into),
+        "read" => push_commands(input, into),
+        "count" => push_counts(input, into),
+        "names" => push_names(&input.names, into),
+        "spelled" => push_spelled(input, into),
+        _ => Err(Stop::NoRow),
+    }
 }

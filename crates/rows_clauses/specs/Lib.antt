@@ -1,2 +1,0 @@
--- Inside: tokens with their meanings, promised to nobody.
-pub mod Looked
