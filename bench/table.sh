@@ -35,7 +35,7 @@ for others in 0 1000 100000; do
 done
 best sweep 62 | awk '{ print }'
 for kind in rows table; do
-    low=$(peak "$kind" 62)
-    high=$(peak "$kind" 186)
-    awk -v kind="$kind" -v low="$low" -v high="$high" 'BEGIN { printf "%s: %.0f bytes a row\n", kind, (high - low) * 1024 / (124 * 16382) }'
+    low=$(peak "$kind" 31)
+    high=$(peak "$kind" 93)
+    awk -v kind="$kind" -v low="$low" -v high="$high" 'BEGIN { printf "%s: %.0f bytes a row\n", kind, (high - low) * 1024 / (62 * 16382) }'
 done
