@@ -1,2 +1,6 @@
+pub mod Values
 pub mod Steps
 pub mod Runs
+pub mod Ends
+pub mod Telling
+pub mod Rows

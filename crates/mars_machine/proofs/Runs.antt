@@ -1,36 +1,35 @@
 -- A run, and the end of an ask, are determined.
-use Rattle.std.proofs.Common.{◌≡◌, ◌≢◌, ℕ, zero, suc, ◌+◌, ◌<◌, ◌≤◌, List, [], ◌∷◌, ◌++◌, length, All, Option, Some, None, refl, sym, ap, ap₂, ◌∙◌, subst, arith, inl, inr, lit≤, replicate}
+use Rattle.std.proofs.Common.{◌≡◌, ◌≢◌, ℕ, zero, suc, ◌<◌, List, [], ◌∷◌, ◌++◌, length, All, Option, None, refl, sym, ap₂, subst, arith, inl, inr, lit≤, replicate}
 use Rattle.std.proofs.lemmas.Bool.{cases_lt}
 use Rattle.std.proofs.lemmas.List.{length-replicate}
 use Rattle.std.proofs.lemmas.List.Elements.{All-nil, All-cons, All-replicate}
-use Rattle.mars_tree.specs.Graph.{Node, IsNode, IsGraph, IsGround, labelled}
+use Rattle.mars_tree.specs.Graph.{Node, IsNode, labelled}
 use Rattle.mars_store.specs.Valuation.{Valuation, IsValuation}
 use Rattle.mars_store.specs.Solutions.{constant}
 use Rattle.mars_term.specs.declared.clause.Ask.{Ask}
 use Rattle.mars_rules.specs.RuleLists.{RuleList}
 use Rattle.mars_machine.specs.declared.ending.Ending.{Ending}
 use Rattle.mars_machine.specs.declared.ending.Ending.TheVariants.{End, Enough, Stopped}
-use Rattle.mars_machine.specs.Subjects.{Subject}
-use Rattle.mars_machine.specs.Equations.{Equations, Solves, AreSolvable, HaveOneTree}
+use Rattle.mars_machine.specs.Equations.{HaveOneTree}
 use Rattle.mars_machine.specs.Alternatives.{Alternative, ask_start}
 use Rattle.mars_machine.specs.Steps.{Says, IsDerivation, IsDerivationStep, IsAskRun}
 use Rattle.mars_machine.specs.Steps.IsDerivation.{begins, goes}
-use Rattle.mars_machine.specs.Asks.{HasEnough, EndsNow, IsAskEnd}
+use Rattle.mars_machine.specs.Asks.{EndsNow, IsAskEnd}
 use Rattle.mars_machine.specs.StepLaws.{IsAlive}
 use Rattle.mars_machine.proofs.Steps.{state_once, state_alive}
 
 -- a graph of one constant
-abbrev one_node : List Node
+abbrev pub one_node : List Node
 one_node = labelled (constant 0) [] ∷ []
 
 -- each variable is that constant
-abbrev all_same : ℕ → Valuation
+abbrev pub all_same : ℕ → Valuation
 all_same count = record { graph = one_node; nodes = replicate count 0 }
 
 no-leaf : (labelled (constant 0) []).label ≡ None → ⊥
 no-leaf e = cc
 
-all_same_valid : (count : ℕ) → IsValuation count (all_same count)
+pub all_same_valid : (count : ℕ) → IsValuation count (all_same count)
 all_same_valid count = record {
   graph = All-cons (IsNode 1) (labelled (constant 0) []) [] (record { kids = refl; in_range = All-nil (λ kid. kid < 1) }) (All-nil (IsNode 1));
   ground = All-cons (λ node. node.label ≢ None) (labelled (constant 0) []) [] no-leaf (All-nil (λ node. node.label ≢ None));

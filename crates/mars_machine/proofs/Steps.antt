@@ -1,5 +1,5 @@
 -- A step has one result, and keeps a solution.
-use Rattle.std.proofs.Common.{◌≡◌, ℕ, ℤ, zero, suc, ◌+◌, ◌-◌, List, [], ◌∷◌, ◌++◌, length, drop, All, Some, refl, sym, ap, ap₂, ◌∙◌, subst}
+use Rattle.std.proofs.Common.{◌≡◌, ℕ, ℤ, ◌-◌, List, [], ◌∷◌, ◌++◌, length, drop, All, Some, refl, sym, ap, ap₂, ◌∙◌, subst}
 use Rattle.std.specs.Prelude.{if◌then◌else◌, ◌==◌}
 use Rattle.std.proofs.lemmas.List.Elements.{All-nil, All-cons, All-head, All-tail, All-append, All-drop}
 use Rattle.mars_tree.specs.declared.label.Label.{Label}
@@ -25,7 +25,7 @@ use Rattle.mars_machine.specs.Children.AreRuleChildren.{none as children-none, c
 use Rattle.mars_machine.specs.BuiltIns.{TermNumber, IsBuiltInChild, built_in_name, built_in_label}
 use Rattle.mars_machine.specs.BuiltIns.TermNumber.{itself, applied}
 use Rattle.mars_machine.specs.BuiltIns.IsBuiltInChild.{equal as built-equal, apart as built-apart, called as built-called, frozen as built-frozen, valued as built-valued, bound as built-bound, free as built-free, out as built-out, out_text as built-out_text}
-use Rattle.mars_machine.specs.Steps.{Says, nothing, tree, text, answer, CallsBuiltIn, BuiltInSays, IsDerivationStep}
+use Rattle.mars_machine.specs.Steps.{Says, text, CallsBuiltIn, BuiltInSays, IsDerivationStep}
 use Rattle.mars_machine.specs.Steps.BuiltInSays.{tree_said, text_said, nothing_said}
 use Rattle.mars_machine.specs.Steps.IsDerivationStep.{answers, cuts, calls, goes_on, fails}
 use Rattle.mars_machine.specs.StepLaws.{IsAlive}

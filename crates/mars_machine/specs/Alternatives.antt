@@ -1,5 +1,5 @@
 -- Alternatives: goals that are still open, under equations and inequations, with goals that wait.
-use Rattle.std.specs.Prelude.{ℕ, List, [], ◌∷◌, length, map}
+use Rattle.std.specs.Prelude.{ℕ, List, [], length, map}
 use Rattle.mars_tree.specs.Graph.{Node}
 use Rattle.mars_term.specs.declared.clause.Goal.{Goal}
 use Rattle.mars_term.specs.declared.clause.Goal.TheVariants as goal

@@ -1,11 +1,11 @@
 -- The built-ins, and their children.
-use Rattle.std.specs.Prelude.{◌≡◌, ℕ, ℤ, List, [], ◌∷◌, ◌++◌}
+use Rattle.std.specs.Prelude.{ℕ, ℤ, List, [], ◌∷◌, ◌++◌}
 use Rattle.mars_tree.specs.declared.label.Label.{Label}
 use Rattle.mars_tree.specs.declared.label.Label.TheVariants as label
 use Rattle.mars_tree.specs.declared.label.NameId.{NameId}
 use Rattle.mars_term.specs.declared.term.Term.{Int}
 use Rattle.mars_term.specs.declared.clause.Version.{Version}
-use Rattle.mars_term.specs.declared.clause.Version.TheVariants.{One, Two}
+use Rattle.mars_term.specs.declared.clause.Version.TheVariants.{One}
 use Rattle.mars_val.specs.declared.operation.Operation.{Operation}
 use Rattle.mars_val.specs.Number.{IsResult, operation_label}
 use Rattle.mars_machine.specs.declared.built_in.BuiltIn.{BuiltIn}

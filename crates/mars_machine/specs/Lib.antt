@@ -6,6 +6,12 @@ pub mod Children
 pub mod BuiltIns
 pub mod Steps
 pub mod Asks
+pub mod TermAnswers
+pub mod Machines
 -- Laws: each step, each run and each end is one.
 pub mod StepLaws
 pub mod RunLaws
+pub mod TellingLaws
+-- Worked rows.
+pub mod RowTerms
+pub mod DerivationRows

@@ -4,7 +4,7 @@ use Rattle.mars_term.specs.declared.clause.Rule.{Rule}
 use Rattle.mars_rules.specs.RuleLists.{RuleList}
 use Rattle.mars_machine.specs.declared.built_in.BuiltIn.{BuiltIn}
 use Rattle.mars_machine.specs.Subjects.{Subject}
-use Rattle.mars_machine.specs.Equations.{Equations, Solves, AreSolvable}
+use Rattle.mars_machine.specs.Equations.{Equations, AreSolvable}
 use Rattle.mars_machine.specs.Alternatives.{OpenGoal, Alternative}
 use Rattle.mars_machine.specs.Children.{Wakes, AreRuleChildren}
 use Rattle.mars_machine.specs.BuiltIns.{TermNumber, IsBuiltInChild}

@@ -1,5 +1,5 @@
 -- Valuations of terms: what the tree of a term shows, where variables and kept names have trees.
-use Rattle.std.specs.Prelude.{ℕ, ◌+◌, List, [], ◌∷◌, slice_get, Option, option_and_then}
+use Rattle.std.specs.Prelude.{ℕ, ◌+◌, List, ◌∷◌, slice_get, Option, option_and_then}
 use Rattle.mars_tree.specs.Graph.{Node, Shown, at}
 use Rattle.mars_term.specs.declared.term.Term.{Term}
 use Rattle.mars_store.specs.Valuation.{Valuation, value}

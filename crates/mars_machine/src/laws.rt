@@ -1,6 +1,8 @@
 //! That waking, children, steps, runs and endings are determined, and worked rows.
 ghost use Rattle.mars_machine.specs.StepLaws.{WakingIsOne, TermNumberIsOne, RuleChildrenAreOne, BuiltInChildIsOne, StepIsOne, StepStaysSolvable};
 ghost use Rattle.mars_machine.specs.RunLaws.{StartIsSolvable, DerivationIsOne, EndIsOne};
+ghost use Rattle.mars_machine.specs.TellingLaws.{TermAnswerIsOne, OpenIsOne, LeftIsOne, AskedIsOne};
+ghost use Rattle.mars_machine.specs.DerivationRows.{DerivationRows, EndsWithoutAlternatives, StopsAtBudget};
 
 /// A step of a state whose alternatives have solutions has one result: which goals wake, which children the rules give,
 /// the number of a term and the child of a built-in are determined. The alternatives after it have solutions, too.
@@ -19,4 +21,24 @@ pub fn derivation_is_one()
     ensures start { StartIsSolvable }
     ensures run { DerivationIsOne }
     ensures end { EndIsOne }
+{}
+
+/// Without a number of answers an ask ends where its run comes to a state without alternatives, or stops with the budget.
+pub fn ends_are_reached()
+    ensures end { EndsWithoutAlternatives }
+    ensures stop { StopsAtBudget }
+{}
+
+/// What is known of terms has one answer graph at most, which inequations are open is determined, and so is what a machine
+/// tells of its end.
+pub fn telling_is_one()
+    ensures answer { TermAnswerIsOne }
+    ensures differ { OpenIsOne }
+    ensures left { LeftIsOne }
+    ensures asked { AskedIsOne }
+{}
+
+/// The definitions on small asks: what their steps say, and how they end.
+pub fn derivation_rows()
+    ensures { DerivationRows }
 {}

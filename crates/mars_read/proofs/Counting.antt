@@ -28,7 +28,7 @@ use Rattle.mars_scripts.specs.Trees.{token_told, action_told, step_before, steps
 use Rattle.mars_scripts.specs.Sizes.{tokens_in}
 use Rattle.mars_read.specs.declared.spellings.TokenRole.{TokenRole}
 use Rattle.mars_read.specs.declared.spellings.TokenRole.TheVariants as role
-use Rattle.mars_read.specs.Spellings.{Spellings, added_with, all_names, meaning_of, meaning_at, role_of, with_token, with_token_as}
+use Rattle.mars_read.specs.Spellings.{Spellings, added_with, meaning_at, role_of, with_token, with_token_as}
 use Rattle.mars_read.specs.Spelled.{events_told, spellings_after}
 use Rattle.mars_tokens.specs.Tokens.{spelling_at}
 

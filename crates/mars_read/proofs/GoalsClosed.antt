@@ -1,13 +1,12 @@
 -- Goals never end open: as many names and tuples are open as actions are due that close them.
 use Rattle.std.proofs.Common.{◌≡◌, ℕ, ◌+◌, List, [], ◌∷◌, ◌++◌, length, refl, ap, sym, ◌∙◌, subst, Bool, true, false, ◌&&◌, Option, Some, None, arith, ◌==◌, if◌then◌else◌}
 use Rattle.std.proofs.lemmas.Bool.Decides.{nat_tests}
-use Rattle.mars_grammar.specs.FormTable.{Event, Read, Say, said_events, leaves_in, Derives, nothing, taken, left_out}
+use Rattle.mars_grammar.specs.FormTable.{Event, Read, Say, said_events, Derives, nothing, taken, left_out}
 use Rattle.mars_grammar.specs.Building.{performs}
 use Rattle.mars_grammar.specs.Testing.{all_of, implies}
 use Rattle.mars_grammar.specs.Rows.{form_if}
 use Rattle.mars_tree.specs.declared.label.NameId.{NameId}
 use Rattle.mars_term.specs.declared.term.Term.{Term, Var, Int, Kept, Str}
-use Rattle.mars_term.specs.declared.clause.Ask.{Ask}
 use Rattle.mars_forms.specs.declared.lexeme.TokenKind.{TokenKind}
 use Rattle.mars_forms.specs.declared.lexeme.TokenKind.TheVariants as kind
 use Rattle.mars_forms.specs.declared.lexeme.Lexeme.{Lexeme}
@@ -21,14 +20,13 @@ use Rattle.mars_forms.specs.declared.table.TheConstants.{GOALS}
 use Rattle.mars_forms.specs.Table.{forms, is_name, begins}
 use Rattle.mars_clauses.specs.declared.maker.ValuedToken.{ValuedToken}
 use Rattle.mars_clauses.specs.declared.terms.OpenTerm.{OpenTerm}
-use Rattle.mars_clauses.specs.declared.making.FinishedClause.{FinishedClause}
 use Rattle.mars_clauses.specs.declared.making.FinishedClause.TheVariants as finished_clause
 use Rattle.mars_clauses.specs.Short.{in_32_bits}
-use Rattle.mars_clauses.specs.Terms.{Unfinished, number_of, vars_with, given_in, given, with_open, applied_in, with_part, with_var, with_cut, paired_in, with_kept, clause_read, clause_said, ask_made, finished_in, finished_by, finished, headed_in, term_made}
+use Rattle.mars_clauses.specs.Terms.{Unfinished, number_of, vars_with, given_in, given, with_open, applied_in, with_part, with_var, with_cut, paired_in, with_kept, ask_made, finished_in, finished_by, finished, headed_in, term_made}
 use Rattle.mars_clauses.specs.Lists.{Clauses, clauses, clauses_from, clauses_event}
 use Rattle.mars_read.specs.Spellings.{Spellings, meaning_of, role_of, with_token}
 use Rattle.mars_read.specs.Spelled.{events_told}
-use Rattle.mars_read.specs.ReadGoals.{GoalsAreAsks, IsAskOf}
+use Rattle.mars_read.specs.ReadGoals.{GoalsAreAsks}
 use Rattle.mars_read.proofs.Counting.{all_rows, row-holds, rows_of, left-free}
 use Rattle.mars_read.proofs.Told.{same-kind, told-said}
 

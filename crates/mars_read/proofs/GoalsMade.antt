@@ -1,5 +1,5 @@
 -- What is made of the text of goals is a well-formed ask.
-use Rattle.std.proofs.Common.{◌≡◌, ◌<◌, ◌^◌, ◌*◌, ◌+◌, List, ℕ, length, ap, sym, ◌∙◌, subst, arith, true}
+use Rattle.std.proofs.Common.{◌≡◌, ◌<◌, ◌^◌, List, ℕ, length, ap, sym, ◌∙◌, subst, arith, true}
 use Rattle.mars_grammar.specs.Building.{both, performs}
 use Rattle.mars_grammar.proofs.Meaning.{both-second}
 use Rattle.mars_term.specs.declared.clause.Ask.{Ask}

@@ -1,5 +1,5 @@
 -- What is made of the text of an input is well formed, and small.
-use Rattle.std.proofs.Common.{◌≡◌, ◌≤◌, ◌<◌, ◌+◌, ◌^◌, ◌*◌, ℕ, List, length, map, refl, ap, ◌∙◌, subst, sym, arith, Bool, false}
+use Rattle.std.proofs.Common.{◌≡◌, ◌≤◌, ◌<◌, ◌+◌, ◌^◌, ℕ, List, length, map, refl, ap, ◌∙◌, subst, sym, arith, Bool, false}
 use Rattle.std.proofs.lemmas.List.{length-map}
 use Rattle.mars_grammar.specs.Building.{both, performs}
 use Rattle.mars_grammar.proofs.Meaning.{both-second}
@@ -7,11 +7,9 @@ use Rattle.mars_tree.specs.Names.{built_in_names}
 use Rattle.mars_forms.specs.declared.table.TheConstants.{INPUT}
 use Rattle.mars_clauses.specs.declared.counts.InputCounts.{InputCounts}
 use Rattle.mars_clauses.specs.Limits.{counting, nothing_counted}
-use Rattle.mars_script.specs.declared.script.Input.{Input}
 use Rattle.mars_scripts.specs.Scripts.{Scripts, scripts_making, nothing_told, input_told}
 use Rattle.mars_scripts.specs.WellFormed.{IsWellFormedInput, MakesWellFormedInput}
 use Rattle.mars_scripts.specs.Sizes.{nodes_put, MakesSmallInput}
-use Rattle.mars_read.specs.declared.error.TheConstants.{TEXT_LIMIT}
 use Rattle.mars_read.specs.Spellings.{Spellings, spellings_from}
 use Rattle.mars_read.specs.Spelled.{events_told}
 use Rattle.mars_read.specs.ReadInput.{InputValue, IsInputText}

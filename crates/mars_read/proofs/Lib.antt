@@ -9,3 +9,5 @@ mod InputsMade
 mod GoalsClosed
 mod OneReading
 mod GoalsMade
+pub mod MoreNameFacts
+pub mod PutTrees

@@ -21,7 +21,7 @@ known-number text known added n e = sym (ap (λ o. unwrap_or o (length (known ++
 pub short-same : (n : ℕ) → n < 2 ^ 32 → n ≡ in_32_bits n
 short-same n few = omega arith
 
-place-within : (text : List ℕ) (names : List (List ℕ)) (n : ℕ) → place_of text names ≡ Some n → n < length names
+pub place-within : (text : List ℕ) (names : List (List ℕ)) (n : ℕ) → place_of text names ≡ Some n → n < length names
 place-within text names n e = (position-Some (λ (name : List ℕ). pointwise nat_eq text name) names n [] e).0
 
 pub known-short : (text : List ℕ) (known added : List (List ℕ)) (n : ℕ) → Some n ≡ place_of text known → length known < 2 ^ 32 → n ≡ in_32_bits (name_number text (known ++ added))

@@ -1,5 +1,5 @@
 -- A text is read in one way.
-use Rattle.std.proofs.Common.{◌≡◌, ◌≢◌, ℕ, List, length, refl, ap, sym, ◌∙◌, subst, Bool, true, false, Option, Some, None}
+use Rattle.std.proofs.Common.{◌≡◌, ◌≢◌, ℕ, List, length, refl, ap, sym, ◌∙◌, subst, Bool, true, false, Option, None}
 use Rattle.mars_grammar.specs.FormTable.{Event, IsText}
 use Rattle.mars_grammar.specs.Building.{Build, performs, Fault}
 use Rattle.mars_grammar.specs.Refusing.{HasFault, IsFirst}

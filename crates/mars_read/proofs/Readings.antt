@@ -1,10 +1,9 @@
 -- A text that is read, whatever the start and the maker: its names, what is made, and how much it is.
-use Rattle.std.proofs.Common.{◌≡◌, ◌≤◌, ◌<◌, ◌^◌, ◌+◌, ◌*◌, ℕ, List, [], length, ap, sym, ◌∙◌, subst, arith, Bool, false, Option, append-nil}
+use Rattle.std.proofs.Common.{◌≡◌, ◌≤◌, ◌<◌, ◌^◌, ◌+◌, ◌*◌, ℕ, List, length, ap, sym, ◌∙◌, subst, arith, Bool, false, Option, append-nil}
 use Rattle.std.proofs.lemmas.Bool.Decides.{nat_tests}
 use Rattle.mars_grammar.specs.FormTable.{Event}
-use Rattle.mars_grammar.specs.Building.{Build, performs, both}
+use Rattle.mars_grammar.specs.Building.{Build, performs}
 use Rattle.mars_grammar.specs.Refusing.{IsMade, HasNoFault}
-use Rattle.mars_grammar.proofs.Meaning.{both-second}
 use Rattle.mars_forms.specs.declared.lexeme.Lexeme.{Lexeme}
 use Rattle.mars_forms.specs.declared.symbol.FormSymbol.{FormSymbol}
 use Rattle.mars_forms.specs.declared.symbol.FormAction.{FormAction}

@@ -1,11 +1,12 @@
 -- The text of a tree leaves a term: how many terms there are at least when all that is due is read.
-use Rattle.std.proofs.Common.{◌≡◌, ◌≤◌, ◌<◌, ◌+◌, ◌-◌, ◌^◌, ◌&&◌, min, ℕ, List, [], ◌∷◌, ◌++◌, length, take, drop, refl, ap, sym, ◌∙◌, subst, Bool, true, false, Option, Some, None, arith, length-append, length-take, length-drop, if◌then◌else◌}
-use Rattle.std.specs.Prelude.{nat_lt, slice_get, ◌==◌}
+use Rattle.std.proofs.Common.{◌≡◌, ◌≤◌, ◌+◌, ◌-◌, ◌^◌, ◌&&◌, min, ℕ, List, [], ◌∷◌, ◌++◌, length, take, drop, refl, ap, sym, ◌∙◌, subst, Bool, true, false, Option, Some, None, arith, length-append, length-take, length-drop, if◌then◌else◌}
+use Rattle.std.specs.Prelude.{nat_lt, slice_get, All}
+use Rattle.std.proofs.lemmas.List.Elements.{All-nil, All-cons}
 use Rattle.std.proofs.lemmas.Bool.Decides.{nat_tests}
 use Rattle.mars_tree.specs.declared.label.NameId.{NameId}
 use Rattle.mars_tree.specs.declared.label.Label.{Label}
 use Rattle.mars_tree.specs.declared.label.Label.TheVariants as label
-use Rattle.mars_grammar.specs.FormTable.{Event, Read, Say, said_events, leaves_in, Derives, nothing, taken, left_out}
+use Rattle.mars_grammar.specs.FormTable.{Event, Read, Say, said_events, Derives, nothing, taken, left_out}
 use Rattle.mars_forms.specs.declared.lexeme.TokenKind.{TokenKind}
 use Rattle.mars_forms.specs.declared.lexeme.TokenKind.TheVariants as kind
 use Rattle.mars_forms.specs.declared.lexeme.Lexeme.{Lexeme}
@@ -22,8 +23,9 @@ use Rattle.mars_clauses.specs.declared.maker.ValuedToken.{ValuedToken}
 use Rattle.mars_graphs.specs.declared.maker.Head.{Head}
 use Rattle.mars_graphs.specs.declared.maker.Head.TheVariants as head
 use Rattle.mars_graphs.specs.Systems.{Side}
-use Rattle.mars_graphs.specs.Steps.{TreeStep, Variable, Leaf, Open, Close, Equate, Define, Writing, writes, writes_all, nothing_written, label_over, written_over, closed_writing, defined_writing}
+use Rattle.mars_graphs.specs.Steps.{TreeStep, Variable, Leaf, Open, Equate, Define, Writing, writes, writes_all, label_over, written_over, closed_writing, defined_writing}
 use Rattle.mars_scripts.specs.Trees.{part_told, token_told, action_told, step_before, steps_told}
+use Rattle.mars_scripts.specs.WellFormed.{IsNoEnd}
 use Rattle.mars_read.specs.Spellings.{Spellings, meaning_of, role_of, with_token}
 use Rattle.mars_read.specs.Spelled.{events_told}
 use Rattle.mars_read.proofs.Counting.{left-free, rows_of}
@@ -414,3 +416,24 @@ terms-left two m _ _ _ (left_out {s} {k} {ts} {as'} {es} e d) v w is =
     subst (λ (x : Writing). least_left (s ∷ k) (count_of w) ≤ length x.terms)
     (sym (ap (λ (l : List (Event FormSymbol ValuedToken FormAction)). writes_all w (steps_told l)) (told-said as' es v) ∙ steps-said as' (events_told v es) w))
     (let l = good.left k w in omega (arith, l, more))
+
+-- no token of a tree ends a command
+tree-no_end : (s : FormSymbol) (t : ValuedToken) → is_of_tree s ≡ true → IsNoEnd (Read s t)
+tree-no_end due.OneSemicolon t is = absurd (let g : ◌≡◌ {A = Bool} false true = is in cc)
+tree-no_end _ t is = tt
+
+said-no_end : (as' : List FormAction) (es : List (Event FormSymbol ValuedToken FormAction)) → All IsNoEnd es → All IsNoEnd (said_events as' ++ es)
+said-no_end [] es all = all
+said-no_end (a ∷ as') es all = All-cons IsNoEnd (Say a) (said_events as' ++ es) tt (said-no_end as' es all)
+
+pub tree-no_ends : (two : Bool) (m : FormMode) (k : List FormSymbol) (ts : List Lexeme) (es : List (Event FormSymbol Lexeme FormAction)) → Derives (forms two) m k ts es → (v : Spellings) → all_of_tree k ≡ true → All IsNoEnd (events_told v es)
+tree-no_ends two m _ _ _ nothing v is = All-nil IsNoEnd
+tree-no_ends two m _ _ _ (taken {s} {k} {form} {t} {ts} {es} e d) v is =
+    let told = meaning_of s t v in
+    let takes : (forms two).takes s told.kind ≡ Some form = ap (λ kd. (forms two).takes s kd) (same-kind (role_of s t.kind) t v) ∙ e in
+    let good = taken-good two s told form (tree-first (is_of_tree s) (all_of_tree k) is) takes in
+    All-cons IsNoEnd (Read s told) (events_told (with_token s t v) es) (tree-no_end s told (tree-first (is_of_tree s) (all_of_tree k) is))
+    (tree-no_ends two ((forms two).pass t.kind m) (form ++ k) ts es d (with_token s t v) (tree-append form k good.tree (tree-rest (is_of_tree s) (all_of_tree k) is)))
+tree-no_ends two m _ _ _ (left_out {s} {k} {ts} {as'} {es} e d) v is =
+    subst (λ (l : List (Event FormSymbol ValuedToken FormAction)). All IsNoEnd l) (sym (told-said as' es v))
+    (said-no_end as' (events_told v es) (tree-no_ends two m k ts es d v (tree-rest (is_of_tree s) (all_of_tree k) is)))

@@ -1,5 +1,5 @@
 -- What is made of the text of a tree: its graph, and how large that is.
-use Rattle.std.proofs.Common.{◌≡◌, ◌≤◌, ◌<◌, ℕ, List, [], length, refl, ap, sym, ◌∙◌, subst, arith, true}
+use Rattle.std.proofs.Common.{◌≡◌, ◌≤◌, ◌<◌, ℕ, List, length, refl, ap, sym, ◌∙◌, subst, arith, true}
 use Rattle.mars_grammar.specs.Building.{both}
 use Rattle.mars_grammar.proofs.Meaning.{both-second}
 use Rattle.mars_forms.specs.declared.table.TheConstants.{TREE}

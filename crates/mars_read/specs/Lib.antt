@@ -1,4 +1,6 @@
--- Promised: what tokens mean, what a maker is told.
+-- Promised: what tokens mean, what a maker is told. Not promised: how names are kept.
+pub mod NameLists
+pub mod MoreNamesInside
 pub mod Spellings
 pub mod Spelled
 pub mod Refused

@@ -1,24 +1,28 @@
 -- What reading the text of an input gives.
-use Rattle.std.specs.Prelude.{◌≡◌, ℕ, List, map, Bool, false}
+use Rattle.std.specs.Prelude.{◌≡◌, ◌≤◌, ℕ, List, length, map, Bool, false}
 use Rattle.mars_grammar.specs.declared.Which.{Which}
-use Rattle.mars_grammar.specs.FormTable.{Event}
-use Rattle.mars_grammar.specs.Building.{Build, both}
+use Rattle.mars_grammar.specs.FormTable.{Event, Derives}
+use Rattle.mars_grammar.specs.Building.{Build, both, performs}
 use Rattle.mars_tree.specs.Names.{built_in_names}
 use Rattle.mars_forms.specs.declared.lexeme.Lexeme.{Lexeme}
 use Rattle.mars_forms.specs.declared.symbol.FormSymbol.{FormSymbol}
 use Rattle.mars_forms.specs.declared.symbol.FormAction.{FormAction}
-use Rattle.mars_forms.specs.declared.table.TheConstants.{INPUT}
+use Rattle.mars_forms.specs.declared.symbol.FormMode.{FormMode}
+use Rattle.mars_forms.specs.Table.{forms}
+use Rattle.mars_forms.specs.declared.table.TheConstants.{INPUT, TREE}
 use Rattle.mars_tokens.specs.Tokens.{IsOfVersion}
 use Rattle.mars_clauses.specs.declared.counts.InputCounts.{InputCounts}
 use Rattle.mars_clauses.specs.declared.limits.OverLimit.{OverLimit}
 use Rattle.mars_clauses.specs.Limits.{counting, nothing_counted}
 use Rattle.mars_script.specs.declared.script.Input.{Input}
-use Rattle.mars_scripts.specs.Scripts.{Scripts, scripts_making, nothing_told, input_told}
+use Rattle.mars_scripts.specs.Scripts.{Scripts, scripts_making, nothing_told, input_told, put_told}
+use Rattle.mars_scripts.specs.Sizes.{nodes_of_command}
+use Rattle.mars_graphs.specs.Making.{nothing_made}
 use Rattle.mars_scripts.specs.Told.{scripts_of}
 use Rattle.mars_read.specs.declared.error.ReadError.{ReadError}
 use Rattle.mars_read.specs.declared.inputs.InputParts.{InputParts}
 use Rattle.mars_read.specs.Spellings.{Spellings, spellings_from, all_names}
-use Rattle.mars_read.specs.Spelled.{spelled_out}
+use Rattle.mars_read.specs.Spelled.{spelled_out, events_told}
 use Rattle.mars_read.specs.Refused.{IsReadAs, IsRefusedAs, either_limit}
 
 -- what is made of the text of an input: names, counts, and what is told
@@ -66,3 +70,9 @@ pub record HasInputParts (two : Bool) (bytes : List ℕ) (parts : InputParts) : 
   pub read : IsInputText two bytes value
   pub added : map (λ text. text.items) parts.added.keys ≡ value.0.added
   pub told : scripts_of parts.scripts ≡ value.1.1
+
+-- Whatever was told before a tree is read: the command that puts it has a graph of at most a node for each token of the tree.
+abbrev pub PutsAreSmall : Type 0
+PutsAreSmall =
+    (two : Bool) (m : FormMode) (tokens : List Lexeme) (events : List (Event FormSymbol Lexeme FormAction)) → Derives (forms two) m TREE.now tokens events →
+    (v : Spellings) (told : Scripts) → told.tree.graph ≡ nothing_made → nodes_of_command (put_told (performs scripts_making (events_told v events) told)) ≤ length tokens

@@ -1,5 +1,5 @@
 -- What tokens mean: the numbers of their spellings in the names of the text, or in the list of its other variables, and integers.
-use Rattle.std.specs.Prelude.{ℕ, ◌-◌, ◌^◌, nat_lt, ℤ, pos, List, [], ◌∷◌, ◌++◌, length, Bool, true, false, ◌&&◌, is_some, map, if◌then◌else◌}
+use Rattle.std.specs.Prelude.{ℕ, ◌-◌, ◌^◌, nat_lt, ℤ, pos, List, [], ◌∷◌, ◌++◌, length, Bool, true, false, ◌&&◌, is_some, if◌then◌else◌}
 use Rattle.mars_tree.specs.declared.label.NameId.{NameId}
 use Rattle.mars_tree.specs.Names.{place_of, name_number, with_text, built_in_names}
 use Rattle.mars_forms.specs.declared.lexeme.TokenKind.{TokenKind}
@@ -12,8 +12,8 @@ use Rattle.mars_tokens.specs.Integers.{integer_value, is_integer_text, is_in_ran
 use Rattle.mars_tokens.specs.Strings.{string_meaning}
 use Rattle.mars_clauses.specs.declared.maker.ValuedToken.{ValuedToken}
 use Rattle.mars_clauses.specs.Short.{in_32_bits}
-use Rattle.mars_read.specs.declared.more_names.MoreNames.{MoreNames}
 use Rattle.mars_read.specs.declared.spellings.TokenMeanings.{TokenMeanings}
+use Rattle.mars_read.specs.NameLists.{joined_names}
 use Rattle.mars_read.specs.declared.spellings.TokenRole.{TokenRole}
 use Rattle.mars_read.specs.declared.spellings.TokenRole.TheVariants as role
 
@@ -142,10 +142,6 @@ meaning_of s t v = meaning_as (role_of s t.kind) t v
 abbrev pub with_token : FormSymbol → Lexeme → Spellings → Spellings
 with_token s t v = with_token_as (role_of s t.kind) t v
 
--- the code's names that are added
-abbrev pub added_of : MoreNames → List (List ℕ)
-added_of m = map (λ text. text.items) m.added.keys
-
 -- the code's spellings
 abbrev pub spellings_of : TokenMeanings → Spellings
-spellings_of m = record { text = m.bytes.now; known = m.names.known.now; added = added_of m.names; vars = m.vars }
+spellings_of m = record { text = m.bytes.now; known = m.names.known; added = m.names.added; vars = joined_names m.vars }

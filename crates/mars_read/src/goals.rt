@@ -9,7 +9,7 @@ ghost use Rattle.mars_read.specs.ReadGoals.{GoalsAreAsks, HasGoalsParts, IsAskOf
 
 use crate::error::text_error;
 use crate::reading::{add_names, read_tokens};
-use crate::{MoreNames, ReadError, Spelled, TokenMeanings};
+use crate::{ReadError, Spelled, TokenMeanings};
 use indexmap::IndexSet;
 use mars_base::NoMemory;
 use mars_clauses::{ClauseLists, FinishedClause, InputCounts, clauses_are_well_formed};
@@ -51,7 +51,7 @@ fn goals_parts(
     }
     let Spelled { meanings, maker } = told;
     let TokenMeanings { names, .. } = meanings;
-    let MoreNames { added, .. } = names;
+    let added = names.into_added();
     let Both { second, .. } = maker;
     Ok(GoalsParts {
         added,

@@ -15,7 +15,7 @@ ghost use Rattle.mars_read.specs.ReadInput.{input_building, IsInputOf, IsReadInp
 
 use crate::error::text_error;
 use crate::reading::{add_names, read_tokens};
-use crate::{MoreNames, ReadError, Spelled, TokenMeanings};
+use crate::{ReadError, Spelled, TokenMeanings};
 use indexmap::IndexSet;
 use mars_clauses::{InputCounts, OverLimit};
 use mars_forms::{Lexeme, parse_input_one, parse_input_two};
@@ -80,7 +80,7 @@ fn input_parts(
     }
     let Spelled { meanings, maker } = told;
     let TokenMeanings { names, .. } = meanings;
-    let MoreNames { added, .. } = names;
+    let added = names.into_added();
     let Both { second, .. } = maker;
     Ok(InputParts {
         added,

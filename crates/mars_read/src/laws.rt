@@ -8,6 +8,7 @@ ghost use Rattle.mars_clauses.specs.declared.limits.OverLimit.{OverLimit};
 ghost use Rattle.mars_read.specs.declared.error.ReadError.{ReadError as TheError};
 ghost use Rattle.mars_read.specs.declared.error.ReadError.TheVariants as read_error;
 ghost use Rattle.mars_read.specs.Refused.{IsReadAs, IsRefusedAs};
+ghost use Rattle.mars_read.specs.ReadInput.{PutsAreSmall};
 
 use mars_forms::Forms;
 use mars_grammar::{Builder, one_refusal, one_value};
@@ -26,3 +27,8 @@ pub fn one_reading<const TWO: bool, B: Builder<Forms<TWO>>>()
     one_value::<Forms<TWO>>();
     one_refusal::<Forms<TWO>, B>();
 }
+
+/// The graph of a tree that an input puts has at most a node for each token of the tree, whatever comes before it.
+pub fn puts_are_small()
+    ensures { PutsAreSmall }
+{}

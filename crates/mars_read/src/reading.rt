@@ -8,7 +8,7 @@ ghost use Rattle.mars_read.specs.Refused.{is_too_long, IsLongRefusal};
 ghost use Rattle.mars_read.specs.ReadTree.{IsReadTree, IsTreeText, IsNoTreeText, HasTreeParts, KeepsNames};
 
 use crate::error::text_error;
-use crate::{MoreNames, ReadError, Spelled, TEXT_LIMIT, TokenMeanings, What};
+use crate::{ReadError, Spelled, TEXT_LIMIT, TokenMeanings, What};
 use indexmap::IndexSet;
 use mars_base::NoMemory;
 use mars_clauses::InputCounts;
@@ -66,7 +66,7 @@ fn tree_parts(
     }
     let Spelled { meanings, maker } = told;
     let TokenMeanings { names, .. } = meanings;
-    let MoreNames { added, .. } = names;
+    let added = names.into_added();
     let Both { second, .. } = maker;
     let TreeMaker { graph, .. } = second;
     Ok(TreeParts { added, graph })

@@ -1,7 +1,5 @@
 //! What tokens mean, by their spellings and the symbols that take them.
 ghost use Rattle.std.specs.Prelude.{◌≡◌, IfOk, OnOk, []};
-ghost use Rattle.mars_tree.specs.Names.{name_number, built_in_names};
-ghost use Rattle.mars_clauses.specs.Short.{in_32_bits};
 ghost use Rattle.mars_read.specs.Spellings as told;
 ghost use Rattle.mars_read.specs.Spellings.{spellings_of, spellings_from};
 
@@ -113,27 +111,13 @@ fn integer_or(text: &[u8]) -> i64
     }
 }
 
-/// The number of a spelling in 32 bits; it goes last where it is new, unless there are as many as there can be.
-fn variable_number(vars: &mut Names, text: &[u8]) -> Result<NameId, NoMemory>
-    ensures place { IfOk result (λ id. id.0 ≡ in_32_bits (name_number text.now vars.old)) }
-    ensures vars { OnOk result (vars.new ≡ told.with_text_if_room text.now vars.old) }
-{
-    if vars.len() < u32::MAX as usize {
-        return vars.id(text);
-    }
-    match vars.find(text) {
-        Some(id) => Ok(id),
-        None => Ok(NameId(u32::MAX)),
-    }
-}
-
 /// A text, and the numbers of its spellings so far.
 #[derive(Drop)]
 pub struct TokenMeanings<'a> {
     pub(crate) alloc: Global,
     pub(crate) bytes: &'a [u8],
     pub(crate) names: MoreNames<'a>,
-    pub(crate) vars: Names,
+    pub(crate) vars: MoreNames<'a>,
 }
 
 impl<'a> TokenMeanings<'a> {
@@ -145,7 +129,7 @@ impl<'a> TokenMeanings<'a> {
             alloc,
             bytes,
             names: MoreNames::new(alloc, known),
-            vars: Names::new(alloc),
+            vars: MoreNames::built_in(alloc),
         }
     }
 
@@ -172,7 +156,7 @@ impl<'a> TokenMeanings<'a> {
                 Ok(valued(token, id, 0))
             }
             TokenRole::Variable => {
-                let id = variable_number(&mut self.vars, text)?;
+                let id = self.vars.id_if_room(text)?;
                 Ok(valued(token, id, 0))
             }
             TokenRole::Integer => Ok(valued(token, NameId(0), integer_or(text))),

@@ -3,6 +3,7 @@ ghost use Rattle.std.specs.Prelude.{◌≡◌, ◌≤◌, length};
 ghost use Rattle.std.specs.List.{list_all, prefix_len};
 ghost use Rattle.mars_tokens.specs.Bytes.{is_digit_byte, is_prime_byte};
 ghost use Rattle.mars_tokens.specs.Words.{listed_kind, borrowed_words, is_identifier_word, is_variable_word, spelled_kind, word_kind};
+ghost use Rattle.mars_tokens.specs.WordsInside.{may_begin, may_be_listed, listed_word};
 
 use crate::bytes::{from_place, is_digit, is_letter};
 use mars_forms::TokenKind;
@@ -37,6 +38,47 @@ fn listed_kind(words: &[(&str, TokenKind)], text: &[u8]) -> Option<TokenKind>
         }
     }
     None
+}
+
+/// Whether a word of the grammar may begin with these two bytes.
+fn may_begin(a: u8, b: u8) -> bool
+    ensures { result ≡ may_begin a b }
+{
+    match a {
+        b'r' => b == b'u',
+        b's' => b == b'e' || b == b'a' || b == b'h' || b == b'w',
+        b'e' => b == b'n',
+        b'w' => b == b'h',
+        b'l' => b == b'o',
+        b'b' => b == b'e',
+        b'p' => b == b'u' || b == b'i',
+        b'a' => b == b's',
+        b'k' => b == b'e',
+        b'd' => b == b'r',
+        b'c' => b == b'o',
+        _ => false,
+    }
+}
+
+/// Whether a word may be one of the grammar. Most others are told apart by two bytes.
+fn may_be_listed(text: &[u8]) -> bool
+    ensures { result ≡ may_be_listed text.now }
+{
+    match text {
+        [a, b, ..] => may_begin(*a, *b),
+        _ => false,
+    }
+}
+
+/// The kind of a word of the grammar.
+fn listed_word(text: &[u8]) -> Option<TokenKind>
+    ensures { result ≡ listed_word text.now }
+{
+    if may_be_listed(text) {
+        listed_kind(&WORDS, text)
+    } else {
+        None
+    }
 }
 
 fn is_identifier(text: &[u8]) -> bool
@@ -90,7 +132,7 @@ fn spelled_kind(text: &[u8]) -> TokenKind
 pub(crate) fn word_kind(text: &[u8]) -> TokenKind
     ensures { result ≡ word_kind text.now }
 {
-    match listed_kind(&WORDS, text) {
+    match listed_word(text) {
         Some(kind) => kind,
         None => spelled_kind(text),
     }

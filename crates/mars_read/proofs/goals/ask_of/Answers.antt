@@ -1,8 +1,6 @@
-use Rattle.std.proofs.Common.{◌∙◌, List, ℕ, ap, sym, subst, map, length, true, arith}
+use Rattle.std.proofs.Common.{◌∙◌, ap, sym, subst, map, length, true, arith}
 use Rattle.std.proofs.lemmas.List.{length-map}
-use Rattle.std.proofs.lemmas.Result.{IfOk-weaker}
 use Rattle.mars_grammar.specs.Building.{both}
-use Rattle.mars_term.specs.declared.clause.Ask.{Ask}
 use Rattle.mars_forms.specs.declared.table.TheConstants.{GOALS}
 use Rattle.mars_clauses.specs.Limits.{counting, nothing_counted}
 use Rattle.mars_clauses.specs.Lists.{Clauses, clauses, clauses_from}

@@ -31,6 +31,6 @@ returns-clause-made c =
       value = made;
       read = machine-reads true GOALS.now goals_building c.args.bytes.now c.deref.result.now c.args.tokens.now.refusal (spellings_of c.new.result, (c.new-2.result, lists_of c.new-3.result)) (goals_begin c.args.bytes.now c.args.known.now) made
           begins c.requires.short tokens c.in_default.ensures.made c.in_default.ensures.within;
-      added = refl;
+      added = c.into_added-added.ensures;
       clauses = refl;
     }

@@ -1,20 +1,17 @@
-use Rattle.std.proofs.Common.{◌≡◌, ◌≤◌, ◌∙◌, ◌++◌, List, ℕ, ap, sym, subst, map, length, false, arith}
-use Rattle.std.proofs.lemmas.List.{length-map}
+use Rattle.std.proofs.Common.{◌∙◌, ◌++◌, List, ℕ, ap, map, false}
 use Rattle.std.proofs.lemmas.Result.{err_from_is_err_and}
 use Rattle.mars_tree.specs.Names.{built_in_names}
 use Rattle.mars_grammar.specs.Building.{both}
 use Rattle.mars_forms.specs.declared.table.TheConstants.{INPUT}
 use Rattle.mars_clauses.specs.Limits.{counting, nothing_counted}
 use Rattle.mars_script.specs.declared.script.Input.{Input}
-use Rattle.mars_scripts.specs.WellFormed.{IsWellFormedInput}
-use Rattle.mars_scripts.specs.Sizes.{nodes_put}
 use Rattle.mars_scripts.specs.Scripts.{scripts_making, nothing_told, input_told}
 use Rattle.mars_scripts.specs.Told.{scripts_of}
 use Rattle.mars_read.specs.Spellings.{all_names, with_texts}
 use Rattle.mars_read.specs.Refused.{either_limit}
 use Rattle.mars_read.specs.ReadInput.{input_building, input_begins}
 use Rattle.mars_read.proofs.Refusals.{long-refuses}
-use Rattle.mars_read.proofs.Readings.{names-read, short-text}
+use Rattle.mars_read.proofs.Readings.{names-read}
 use Rattle.mars_read.proofs.InputsMade.{few-input_names}
 use Rattle.mars_read.proofs.inputs.input_of_version.Goals as goal
 

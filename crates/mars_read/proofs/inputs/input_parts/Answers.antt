@@ -37,6 +37,6 @@ returns-clause-made c =
       value = made;
       read = machine-reads c.args.two INPUT.now input_building c.args.bytes.now c.deref.result.now c.args.tokens.now.refusal (spellings_of c.new.result, (c.new-2.result, scripts_of c.new-3.result)) (input_begins c.args.bytes.now) made
           begins c.requires.short tokens c.in_default.ensures.made c.in_default.ensures.within;
-      added = refl;
+      added = c.into_added-added.ensures;
       told = refl;
     }

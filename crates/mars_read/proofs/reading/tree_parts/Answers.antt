@@ -29,6 +29,6 @@ returns-clause-made c =
       value = (spellings_of c.parse_tree.new.builder.meanings, (c.parse_tree.new.builder.maker.first, c.parse_tree.new.builder.maker.second));
       read = machine-reads true TREE.now tree_building c.args.bytes.now c.deref.result.now c.args.tokens.now.refusal (spellings_of c.new.result, (c.new-2.result, c.new-3.result)) (tree_begins c.args.bytes.now c.args.known.now)
           (spellings_of c.parse_tree.new.builder.meanings, (c.parse_tree.new.builder.maker.first, c.parse_tree.new.builder.maker.second)) begins c.requires.short tokens c.in_default.ensures.made c.in_default.ensures.within;
-      added = refl;
+      added = c.into_added-added.ensures;
       graph = refl;
     }
