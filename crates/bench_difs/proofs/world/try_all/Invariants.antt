@@ -1,0 +1,3 @@
+use Rattle.std.proofs.Common.{◌≡◌}
+use Rattle.bench_difs.proofs.world.try_all.Given as goal
+
