@@ -41,8 +41,8 @@ pub(crate) fn bind_all(
     requires { Serves world.old.difs world.old.store }
     ensures { Serves world.new.difs world.new.store }
 {
-    for (&node, &value) in nodes.iter().zip(values) {
-        bind_one(world, node, value)?;
+    for place in 0..nodes.len().min(values.len()) {
+        bind_one(world, nodes[place], values[place])?;
     }
     Ok(())
 }

@@ -136,8 +136,8 @@ fn try_all(
         waiting: Vec::new(alloc),
         fine: true,
     };
-    for &(a, b) in added {
-        try_one(alloc, store, a, b, &mut all)?;
+    for dif in added {
+        try_one(alloc, store, dif.0, dif.1, &mut all)?;
     }
     Ok(all)
 }
