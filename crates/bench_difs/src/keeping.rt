@@ -63,12 +63,7 @@ pub(crate) fn equate(
 }
 
 /// What a store says of two nodes that are to differ, by their equality alone.
-pub(crate) fn plain(
-    alloc: Global,
-    store: &mut Store,
-    a: NodeId,
-    b: NodeId,
-) -> Result<Dif, NoMemory>
+pub(crate) fn plain(alloc: Global, store: &mut Store, a: NodeId, b: NodeId) -> Result<Dif, NoMemory>
     requires a_in { a < length store.old.nodes }
     requires b_in { b < length store.old.nodes }
     ensures { store.new ≡ store.old }

@@ -18,11 +18,7 @@ pub(crate) fn differ_all(world: &mut World, nodes: &[NodeId]) -> Result<(), NoMe
 }
 
 /// Adds that a node differs from others.
-fn differ_from_earlier(
-    world: &mut World,
-    others: &[NodeId],
-    node: NodeId,
-) -> Result<(), NoMemory>
+fn differ_from_earlier(world: &mut World, others: &[NodeId], node: NodeId) -> Result<(), NoMemory>
     requires { Serves world.old.difs world.old.store }
     ensures { Serves world.new.difs world.new.store }
 {

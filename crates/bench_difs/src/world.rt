@@ -125,11 +125,7 @@ impl World {
 }
 
 /// Tries each inequation.
-fn try_all(
-    alloc: Global,
-    store: &mut Store,
-    added: &[(NodeId, NodeId)],
-) -> Result<Plain, NoMemory>
+fn try_all(alloc: Global, store: &mut Store, added: &[(NodeId, NodeId)]) -> Result<Plain, NoMemory>
     ensures { store.new ≡ store.old }
 {
     let mut all = Plain {

@@ -114,10 +114,10 @@ touched-sorted kept now added touched is g =
       apart = All-nil (IsApartPlace now kept.difs.now);
       failed = λ e. inl e;
       sorted = λ place h. elim (attended-grows kept.watches kept.failed is.seen now (get_or kept.numbers.now place 0) (get_or kept.difs.now place (0, 0)) touched is.current.sound
-      (All-get_or (IsInside is.seen) kept.difs.now place (0, 0) (omega arith) inside) is.grows g' (each-at R kept.numbers.now kept.difs.now is.current.attended place h)) [
-        | inl c ↦ inl c
-        | inr a ↦ inr (inr a)
-      ];
+          (All-get_or (IsInside is.seen) kept.difs.now place (0, 0) (omega arith) inside) is.grows g' (each-at R kept.numbers.now kept.difs.now is.current.attended place h)) [
+            | inl c ↦ inl c
+            | inr a ↦ inr (inr a)
+          ];
     }
 
 -- what was told of the inequation at a place
