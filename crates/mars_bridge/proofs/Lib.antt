@@ -9,3 +9,4 @@ pub mod Copied
 pub mod Matched
 pub mod Answered
 pub mod Building
+pub mod Deciding

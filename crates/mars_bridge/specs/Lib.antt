@@ -8,3 +8,4 @@ pub mod TermLaws
 pub mod MatchedLaws
 pub mod AnsweredLaws
 pub mod BuildingLaws
+pub mod DecidingLaws
