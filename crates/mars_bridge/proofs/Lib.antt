@@ -10,3 +10,5 @@ pub mod Matched
 pub mod Answered
 pub mod Building
 pub mod Deciding
+pub mod Existing
+pub mod Offspring

@@ -9,3 +9,5 @@ pub mod MatchedLaws
 pub mod AnsweredLaws
 pub mod BuildingLaws
 pub mod DecidingLaws
+pub mod ExistingLaws
+pub mod ChildrenLaws

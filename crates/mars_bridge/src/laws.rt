@@ -2,7 +2,9 @@
 ghost use Rattle.mars_bridge.specs.AnsweredLaws.{AnswerDenoted, VariablesDenoted, RootsDenoted};
 ghost use Rattle.mars_bridge.specs.BridgeLaws.{NodeTellsSubject, PairTellsSubjects, DifsTell, EqualRepresented};
 ghost use Rattle.mars_bridge.specs.BuildingLaws.{EmptyRepresented, FreeRepresented, FreeDenotes, NodeKeeps, LabelDenotes, KeptDenotes, EqualScoped, CallScoped};
+ghost use Rattle.mars_bridge.specs.ChildrenLaws.{ChildrenExist};
 ghost use Rattle.mars_bridge.specs.DecidingLaws.{EqualDecided, ImpliedDecided, DifsDecided, OpenDenoted};
+ghost use Rattle.mars_bridge.specs.ExistingLaws.{TermWritten};
 ghost use Rattle.mars_bridge.specs.MatchedLaws.{MatchedRepresents, RefusedUnsolvable};
 ghost use Rattle.mars_bridge.specs.TermLaws.{AlikeTermsSame};
 ghost use Rattle.mars_bridge.specs.Scoped.{MoreNodesKeep, CopiesDenoteRules};
@@ -79,4 +81,14 @@ pub fn systems_decide()
     ensures implied { ImpliedDecided }
     ensures difs { DifsDecided }
     ensures allowed { OpenDenoted }
+{}
+
+/// A term of variables that are in use can be written into a system, on systems alone.
+pub fn terms_written()
+    ensures { TermWritten }
+{}
+
+/// A call whose alternative is denoted by a system has its children by rules, before any of them was tried.
+pub fn children_exist()
+    ensures { ChildrenExist }
 {}
