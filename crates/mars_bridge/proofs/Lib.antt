@@ -9,6 +9,3 @@ pub mod Copied
 pub mod Matched
 pub mod Answered
 pub mod Building
-pub mod Deciding
-pub mod Existing
-pub mod Offspring

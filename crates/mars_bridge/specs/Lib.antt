@@ -8,6 +8,3 @@ pub mod TermLaws
 pub mod MatchedLaws
 pub mod AnsweredLaws
 pub mod BuildingLaws
-pub mod DecidingLaws
-pub mod ExistingLaws
-pub mod ChildrenLaws

@@ -2,9 +2,6 @@
 ghost use Rattle.mars_bridge.specs.AnsweredLaws.{AnswerDenoted, VariablesDenoted, RootsDenoted};
 ghost use Rattle.mars_bridge.specs.BridgeLaws.{NodeTellsSubject, PairTellsSubjects, DifsTell, EqualRepresented};
 ghost use Rattle.mars_bridge.specs.BuildingLaws.{EmptyRepresented, FreeRepresented, FreeDenotes, NodeKeeps, LabelDenotes, KeptDenotes, EqualScoped, CallScoped};
-ghost use Rattle.mars_bridge.specs.ChildrenLaws.{ChildrenExist};
-ghost use Rattle.mars_bridge.specs.DecidingLaws.{EqualDecided, ImpliedDecided, DifsDecided, OpenDenoted};
-ghost use Rattle.mars_bridge.specs.ExistingLaws.{TermWritten};
 ghost use Rattle.mars_bridge.specs.MatchedLaws.{MatchedRepresents, RefusedUnsolvable};
 ghost use Rattle.mars_bridge.specs.TermLaws.{AlikeTermsSame};
 ghost use Rattle.mars_bridge.specs.Scoped.{MoreNodesKeep, CopiesDenoteRules};
@@ -71,24 +68,4 @@ pub fn nodes_build()
     ensures kept { KeptDenotes }
     ensures equal { EqualScoped }
     ensures call { CallScoped }
-{}
-
-/// Whether two nodes can be made equal, whether they are implied equal, and whether inequations are solvable, is decided, so
-/// that a definition may speak of what a step leads to before it is made. The inequations that are open for nodes are those
-/// that are open for their terms.
-pub fn systems_decide()
-    ensures equal { EqualDecided }
-    ensures implied { ImpliedDecided }
-    ensures difs { DifsDecided }
-    ensures allowed { OpenDenoted }
-{}
-
-/// A term of variables that are in use can be written into a system, on systems alone.
-pub fn terms_written()
-    ensures { TermWritten }
-{}
-
-/// A call whose alternative is denoted by a system has its children by rules, before any of them was tried.
-pub fn children_exist()
-    ensures { ChildrenExist }
 {}

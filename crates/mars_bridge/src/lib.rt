@@ -4,6 +4,6 @@
 mod laws;
 
 pub use laws::{
-    alike_terms_same, answers_denoted, calls_represented, children_exist, copies_denote,
-    nodes_build, nodes_keep, nodes_tell, roots_tell, systems_decide, terms_written,
+    alike_terms_same, answers_denoted, calls_represented, copies_denote, nodes_build, nodes_keep,
+    nodes_tell, roots_tell,
 };

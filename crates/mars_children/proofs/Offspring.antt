@@ -24,15 +24,15 @@ use Rattle.mars_machine.proofs.Values.{value-name}
 use Rattle.mars_machine.proofs.Steps.{shown-label}
 use Rattle.mars_bridge.specs.Represents.{Represents, Denotes, DenotePairs}
 use Rattle.mars_bridge.specs.Scoped.{UsesBelow, PairUsesBelow, IsScoped}
-use Rattle.mars_bridge.specs.ChildrenLaws.{IsDenotedCall}
+use Rattle.mars_children.specs.ChildrenLaws.{IsDenotedCall}
 use Rattle.mars_bridge.proofs.Carried.{represents_equal, denotes_equal, apart_iff, solvable_iff}
 use Rattle.mars_bridge.proofs.Parts.{root_iff}
 use Rattle.mars_bridge.proofs.Variables.{within_value, cut-same, cut_solves}
 use Rattle.mars_bridge.proofs.Copied.{over-parts}
 use Rattle.mars_bridge.proofs.Matched.{split-last}
 use Rattle.mars_bridge.proofs.Building.{free_represented, free_denotes, uses_more}
-use Rattle.mars_bridge.proofs.Existing.{write_term}
-use Rattle.mars_bridge.proofs.Deciding.{decide_equal, decide_difs}
+use Rattle.mars_children.proofs.Existing.{write_term}
+use Rattle.mars_children.proofs.Deciding.{decide_equal, decide_difs}
 
 -- so many variables more
 record HasVariables (e : Equations) (s : System) (vars : List ℕ) (count : ℕ) : Type 0 where

@@ -21,7 +21,7 @@ use Rattle.mars_machine.specs.Subjects.{Subject, Renamed}
 use Rattle.mars_machine.specs.Equations.{Equations}
 use Rattle.mars_bridge.specs.Represents.{Represents, Denotes, DenoteAll}
 use Rattle.mars_bridge.specs.Scoped.{IsTermOver}
-use Rattle.mars_bridge.specs.ExistingLaws.{IsSubjectWritten}
+use Rattle.mars_children.specs.ExistingLaws.{IsSubjectWritten}
 use Rattle.mars_bridge.proofs.Terms.{same-term, argument-parts}
 use Rattle.mars_bridge.proofs.Parts.{variable_denoted}
 use Rattle.mars_bridge.proofs.Building.{label_denotes, node_keeps}

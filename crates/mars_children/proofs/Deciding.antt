@@ -25,7 +25,7 @@ use Rattle.mars_machine.specs.Subjects.{Subject}
 use Rattle.mars_machine.specs.Equations.{Equations, AreSolvable, HaveOneTree, with_equality}
 use Rattle.mars_machine.specs.TermAnswers.AreOpenUnder.{none as term-none, allowed as term-allowed, excluded as term-excluded}
 use Rattle.mars_bridge.specs.Represents.{of_vars, Represents, Denotes, DenotePairs}
-use Rattle.mars_bridge.specs.DecidingLaws.{HasEqual, OpenTold}
+use Rattle.mars_children.specs.DecidingLaws.{HasEqual, OpenTold}
 use Rattle.mars_bridge.proofs.Carried.{represents_equal, apart_iff}
 
 decide-label : (l m : Label) → (l ≡ m) ⊎ (l ≢ m)

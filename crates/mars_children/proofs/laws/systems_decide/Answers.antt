@@ -1,5 +1,5 @@
-use Rattle.mars_bridge.proofs.Deciding.{decide_equal, decide_implied, decide_difs, open_denoted}
-use Rattle.mars_bridge.proofs.laws.systems_decide.Goals as goal
+use Rattle.mars_children.proofs.Deciding.{decide_equal, decide_implied, decide_difs, open_denoted}
+use Rattle.mars_children.proofs.laws.systems_decide.Goals as goal
 
 pub returns-clause-equal : goal.returns-clause-equal
 returns-clause-equal c = decide_equal
