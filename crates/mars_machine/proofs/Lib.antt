@@ -5,3 +5,4 @@ pub mod Ends
 pub mod Telling
 pub mod Rows
 pub mod CutRows
+pub mod CyclicRows

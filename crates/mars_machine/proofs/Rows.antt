@@ -131,21 +131,21 @@ woken-said name v s =
     ∙ value-argument [] v 0 (record { 0 = built_in_name Out }) (atom name ∷ []) 0 [] ∙ atom-root v name
 
 -- a step of a built-in that says nothing, or a tree
-built-step : (first child : Alternative) (rest : List Alternative) (call : Subject) (others : List OpenGoal) (said : Says) (built_in : BuiltIn) → first.goals ≡ Call call ∷ others
+pub built-step : (first child : Alternative) (rest : List Alternative) (call : Subject) (others : List OpenGoal) (said : Says) (built_in : BuiltIn) → first.goals ≡ Call call ∷ others
     → CallsBuiltIn One first.equations call built_in → IsBuiltInChild first call others built_in child → BuiltInSays first.equations call built_in said
     → IsDerivationStep no_rules (first ∷ rest) said (child ∷ rest)
 built-step first child rest call others said built_in e k c s = goes_on {call = call} {others = others} built_in e k c s
 
-fail-step : (first : Alternative) (rest : List Alternative) (call : Subject) (others : List OpenGoal) (built_in : BuiltIn) → first.goals ≡ Call call ∷ others
+pub fail-step : (first : Alternative) (rest : List Alternative) (call : Subject) (others : List OpenGoal) (built_in : BuiltIn) → first.goals ≡ Call call ∷ others
     → CallsBuiltIn One first.equations call built_in → ((child : Alternative) → IsBuiltInChild first call others built_in child → ⊥)
     → IsDerivationStep no_rules (first ∷ rest) nothing rest
 fail-step first rest call others built_in e k n = fails {call = call} {others = others} built_in e k n
 
-then : (start : List Alternative) (steps : ℕ) (said : List Says) (says : Says) (before after : List Alternative) → IsDerivation no_rules start steps said before → IsDerivationStep no_rules before says after
+pub then : (start : List Alternative) (steps : ℕ) (said : List Says) (says : Says) (before after : List Alternative) → IsDerivation no_rules start steps said before → IsDerivationStep no_rules before says after
     → IsDerivation no_rules start (suc steps) (said ++ says ∷ []) after
 then start steps said says before after d h = goes d h
 
-ends : (ask : Ask) (steps : ℕ) (said : List Says) → IsAskRun no_rules ask [] steps said [] → EndsAfter ask steps said
+pub ends : (ask : Ask) (steps : ℕ) (said : List Says) → IsAskRun no_rules ask [] steps said [] → EndsAfter ask steps said
 ends ask steps said d budget within = ends_without_alternatives no_rules ask [] budget steps said d within
 
 -- an ask of no goals

@@ -16,3 +16,4 @@ pub mod TellingLaws
 pub mod RowTerms
 pub mod DerivationRows
 pub mod CutRows
+pub mod CyclicRows

@@ -3,6 +3,7 @@ ghost use Rattle.mars_machine.specs.StepLaws.{WakingIsOne, TermNumberIsOne, Rule
 ghost use Rattle.mars_machine.specs.RunLaws.{StartIsSolvable, DerivationIsOne, EndIsOne};
 ghost use Rattle.mars_machine.specs.TellingLaws.{TermAnswerIsOne, OpenIsOne, LeftIsOne, AskedIsOne};
 ghost use Rattle.mars_machine.specs.CutRows.{CutRows};
+ghost use Rattle.mars_machine.specs.CyclicRows.{CyclicRow};
 ghost use Rattle.mars_machine.specs.DerivationRows.{DerivationRows, EndsWithoutAlternatives, StopsAtBudget};
 
 /// A step of a state whose alternatives have solutions has one result: which goals wake, which children the rules give,
@@ -43,4 +44,5 @@ pub fn telling_is_one()
 pub fn derivation_rows()
     ensures small { DerivationRows }
     ensures cut { CutRows }
+    ensures cyclic { CyclicRow }
 {}

@@ -1,4 +1,5 @@
 use Rattle.mars_machine.proofs.CutRows.{cut_rows}
+use Rattle.mars_machine.proofs.CyclicRows.{cyclic_row}
 use Rattle.mars_machine.proofs.Rows.{derivation_rows}
 use Rattle.mars_machine.proofs.laws.derivation_rows.Goals as goal
 
@@ -7,3 +8,6 @@ returns-clause-small c = derivation_rows
 
 pub returns-clause-cut : goal.returns-clause-cut
 returns-clause-cut c = cut_rows
+
+pub returns-clause-cyclic : goal.returns-clause-cyclic
+returns-clause-cyclic c = cyclic_row
