@@ -5,8 +5,8 @@ use Rattle.mars_term.specs.declared.term.Term.{Term, Var, Name}
 use Rattle.mars_term.specs.declared.clause.Ask.{Ask}
 use Rattle.mars_machine.specs.declared.built_in.BuiltIn.TheVariants.{Eq, Dif}
 use Rattle.mars_machine.specs.Steps.{nothing}
-use Rattle.mars_machine.specs.RowTerms.{built_term, ask_of}
-use Rattle.mars_machine.specs.DerivationRows.{EndsAfter}
+use Rattle.mars_worked.specs.RowTerms.{built_term, ask_of}
+use Rattle.mars_worked.specs.DerivationRows.{EndsAfter}
 
 -- two variables, x and y
 abbrev pub two_variables : List NameId

@@ -15,11 +15,11 @@ use Rattle.mars_machine.specs.BuiltIns.IsBuiltInChild.{equal as built-equal, apa
 use Rattle.mars_machine.specs.Steps.{nothing, IsDerivation}
 use Rattle.mars_machine.specs.Steps.BuiltInSays.{nothing_said}
 use Rattle.mars_machine.specs.Steps.IsDerivation.{begins}
-use Rattle.mars_machine.specs.RowTerms.{built_call}
-use Rattle.mars_machine.specs.DerivationRows.{no_rules}
-use Rattle.mars_machine.specs.CyclicRows.{ff_of, ask_cyclic, CyclicRow}
+use Rattle.mars_worked.specs.RowTerms.{built_call}
+use Rattle.mars_worked.specs.DerivationRows.{no_rules}
+use Rattle.mars_worked.specs.CyclicRows.{ff_of, ask_cyclic, CyclicRow}
 use Rattle.mars_machine.proofs.Values.{value-name, value-argument, value-variable}
-use Rattle.mars_machine.proofs.Rows.{argument-value, called, built-step, fail-step, then, ends}
+use Rattle.mars_worked.proofs.Rows.{argument-value, called, built-step, fail-step, then, ends}
 
 -- one node that is its own kid, for both variables
 abbrev loop_tree : Valuation

@@ -23,8 +23,8 @@ use Rattle.mars_machine.specs.Steps.BuiltInSays.{tree_said, nothing_said}
 use Rattle.mars_machine.specs.Steps.IsDerivationStep.{answers, goes_on, fails}
 use Rattle.mars_machine.specs.Steps.IsDerivation.{begins, goes}
 use Rattle.mars_machine.specs.Asks.{IsAskEnd}
-use Rattle.mars_machine.specs.RowTerms.{atom, built_term, built_call, ask_of, one_variable, ask_equal, equal_made, ask_woken, woken_equations, first_said, second_said, third_said, woken_answer, ask_bound, bound_answer}
-use Rattle.mars_machine.specs.DerivationRows.{no_rules, EndsAfter, DerivationRows}
+use Rattle.mars_worked.specs.RowTerms.{atom, built_term, built_call, ask_of, one_variable, ask_equal, equal_made, ask_woken, woken_equations, first_said, second_said, third_said, woken_answer, ask_bound, bound_answer}
+use Rattle.mars_worked.specs.DerivationRows.{no_rules, EndsAfter, DerivationRows}
 use Rattle.mars_machine.proofs.Values.{value-name, value-argument, value-variable}
 use Rattle.mars_machine.proofs.Ends.{ends_without_alternatives, stops_at_budget}
 

@@ -16,7 +16,7 @@ use Rattle.mars_machine.specs.Alternatives.{Alternative, Call, ask_start}
 use Rattle.mars_machine.specs.Children.{called_equations}
 use Rattle.mars_machine.specs.BuiltIns.{TermNumber}
 use Rattle.mars_machine.specs.Steps.{nothing, IsAskRun}
-use Rattle.mars_machine.specs.RowTerms.{atom, built_term, built_call, ask_of, one_variable}
+use Rattle.mars_worked.specs.RowTerms.{atom, built_term, built_call, ask_of, one_variable}
 
 -- a rule without variables whose head is a name
 abbrev pub atom_rule : ℕ → List Goal → Rule

@@ -14,17 +14,7 @@ use Rattle.mars_machine.specs.Equations.{Forces}
 use Rattle.mars_machine.specs.Alternatives.{Alternative, Call, CutTo, ask_start, opened_goals}
 use Rattle.mars_machine.specs.Steps.{Says, nothing, tree, answer, IsAskRun}
 use Rattle.mars_machine.specs.Asks.{IsAskEnd}
-use Rattle.mars_machine.specs.RowTerms.{atom, built_term, ask_of, one_variable, ask_equal, equal_made, ask_woken, woken_equations, first_said, second_said, third_said, woken_answer, ask_bound, bound_answer}
-
--- an ask without a number of answers ends where its run comes to a state without alternatives ..
-abbrev pub EndsWithoutAlternatives : Type 0
-EndsWithoutAlternatives = (P : RuleList) (ask : Ask) (kept : List (List Node)) (budget steps : ℕ) (said : List Says) → IsAskRun P ask kept steps said [] → steps ≤ budget
-    → IsAskEnd P ask kept budget None steps said End
-
--- .. and stops where alternatives are left with the budget used up
-abbrev pub StopsAtBudget : Type 0
-StopsAtBudget = (P : RuleList) (ask : Ask) (kept : List (List Node)) (budget : ℕ) (said : List Says) (first : Alternative) (rest : List Alternative) → IsAskRun P ask kept budget said (first ∷ rest)
-    → IsAskEnd P ask kept budget None budget said Stopped
+use Rattle.mars_worked.specs.RowTerms.{atom, built_term, ask_of, one_variable, ask_equal, equal_made, ask_woken, woken_equations, first_said, second_said, third_said, woken_answer, ask_bound, bound_answer}
 
 -- no rules, of version 1
 abbrev pub no_rules : RuleList

@@ -1,7 +1,7 @@
-use Rattle.mars_machine.proofs.CutRows.{cut_rows}
-use Rattle.mars_machine.proofs.CyclicRows.{cyclic_row}
-use Rattle.mars_machine.proofs.Rows.{derivation_rows}
-use Rattle.mars_machine.proofs.laws.derivation_rows.Goals as goal
+use Rattle.mars_worked.proofs.CutRows.{cut_rows}
+use Rattle.mars_worked.proofs.CyclicRows.{cyclic_row}
+use Rattle.mars_worked.proofs.Rows.{derivation_rows}
+use Rattle.mars_worked.proofs.laws.derivation_rows.Goals as goal
 
 pub returns-clause-small : goal.returns-clause-small
 returns-clause-small c = derivation_rows

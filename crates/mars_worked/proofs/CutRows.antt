@@ -30,11 +30,11 @@ use Rattle.mars_machine.specs.Steps.{Says, nothing, CallsBuiltIn, IsDerivation, 
 use Rattle.mars_machine.specs.Steps.BuiltInSays.{nothing_said}
 use Rattle.mars_machine.specs.Steps.IsDerivationStep.{cuts, calls, goes_on}
 use Rattle.mars_machine.specs.Steps.IsDerivation.{begins, goes}
-use Rattle.mars_machine.specs.RowTerms.{atom, built_call}
-use Rattle.mars_machine.specs.CutRows.{atom_rule, first_rule, cut_rules, ask_cut, frozen_call, equal_call, rr_called, waiting_qq, x_known_equations, qq_called, inner_called, after_cut, endless, CutRows}
+use Rattle.mars_worked.specs.RowTerms.{atom, built_call}
+use Rattle.mars_worked.specs.CutRows.{atom_rule, first_rule, cut_rules, ask_cut, frozen_call, equal_call, rr_called, waiting_qq, x_known_equations, qq_called, inner_called, after_cut, endless, CutRows}
 use Rattle.mars_machine.proofs.Values.{value-name, value-argument, value-variable}
 use Rattle.mars_machine.proofs.Steps.{shown-label, forced-once}
-use Rattle.mars_machine.proofs.Rows.{x_is, x-valid, x_pair, argument-value, x-value, second-value, atom-root, x-same, two-names, called}
+use Rattle.mars_worked.proofs.Rows.{x_is, x-valid, x_pair, argument-value, x-value, second-value, atom-root, x-same, two-names, called}
 
 -- an atom has one tree, however it is renamed
 atoms-equal : (v : Valuation) (i j name : ℕ) (path : List ℕ) → subject_value [] v (Renamed i (atom name)) path ≡ subject_value [] v (Renamed j (atom name)) path
