@@ -4,7 +4,9 @@ use Rattle.std.specs.List.{flat_map}
 use Rattle.std.proofs.lemmas.List.FromFn.{get_or-map-range_with_len, length-map-range_with_len}
 use Rattle.std.proofs.lemmas.Option.{same_Some, slice_get-get_or, slice_get_within}
 use Rattle.std.proofs.lemmas.List.Elements.{All-weaker, All-from_get_or}
-use Rattle.mars_store.specs.Valuation.{value}
+use Rattle.mars_store.specs.Valuation.{Valuation, value}
+use Rattle.mars_store.specs.Solutions.{InSol}
+use Rattle.mars_store.specs.Growing.{Continues, cut}
 use Rattle.mars_store.specs.System.{System, IsSystem}
 use Rattle.mars_term.specs.declared.term.Term.{Term}
 use Rattle.mars_term.specs.declared.clause.Goal.{Goal}
@@ -19,13 +21,12 @@ use Rattle.mars_rules.specs.declared.goals.BodyGoal.TheVariants as copied
 use Rattle.mars_rules.specs.declared.goals.Instance.{Instance}
 use Rattle.mars_rules.specs.Instances.{IsInstance, IsGoalOf, new_variable}
 use Rattle.mars_rules.proofs.RuleParts.{head-parts, body-parts, all-before, all-after}
-use Rattle.mars_machine.specs.Equations.{Equations, with_variables}
-use Rattle.mars_machine.proofs.Runs.{all_same, all_same_valid}
-use Rattle.mars_bridge.specs.Represents.{Represents}
-use Rattle.mars_bridge.specs.Scoped.{IsScoped, IsTermOver, GoesOn, IsCopied, IsDenotedGoal, instance_variables}
-use Rattle.mars_bridge.proofs.Variables.{TakesTrees, represents_variables, denotes_still, denotes_term}
+use Rattle.mars_machine.specs.Equations.{Equations, Solves, with_variables}
+use Rattle.mars_bridge.specs.Represents.{of_vars, Represents}
+use Rattle.mars_bridge.specs.Scoped.{IsScoped, IsTermOver, IsCopied, IsDenotedGoal, instance_variables}
+use Rattle.mars_bridge.proofs.Variables.{last_trees, last_valid, represents_variables, denotes_still, denotes_term, earlier-hold}
 
-over-parts : (vars : ℕ) (term : Term) → All (IsRulePart vars) (parts_of term) → IsTermOver vars term
+pub over-parts : (vars : ℕ) (term : Term) → All (IsRulePart vars) (parts_of term) → IsTermOver vars term
 over-parts vars term all =
     All-weaker (IsRulePart vars) (λ part. All (λ x. x < vars) (number_of_var part) × (number_of_kept part ≡ [])) (λ part p. (p.known, p.no_kept)) (parts_of term) all
 
@@ -48,16 +49,10 @@ module _ (e : Equations) (old new : System) (vars : List ℕ) (r : Represents e 
       let fits = made.vars in
       subst (λ n. n < length new.nodes) (sym (get_or-map-range_with_len (new_variable old) 0 rule.vars x x 0 (omega arith) (omega arith))) (omega arith))
 
-  goes : GoesOn old new
-  goes = record {
-    sound = sound;
-    grows = made.grows;
-    on = λ v sol. let u = made.free v (all_same rule.vars) sol (all_same_valid rule.vars) in (u.0, u.1, u.2);
-  }
-
-  takes : TakesTrees old new rule.vars more
-  takes v w sol valid =
-      let u = made.free v w sol valid in (
+  takes : (w : Valuation) → Solves (with_variables e (e.next + rule.vars)) w → (v : Valuation) → InSol old v → ((x : ℕ) (path : List ℕ) → value (of_vars vars v) x path ≡ value (cut e.next w) x path)
+      → (u : Valuation) × InSol new u × Continues v u × ((x n : ℕ) → slice_get more x ≡ Some n → (path : List ℕ) → value u n path ≡ value (last_trees e.next w) x path)
+  takes w k v sol same =
+      let u = made.free v (last_trees e.next w) sol (last_valid e.next rule.vars w k.valuation) in (
         u.0,
         u.1,
         u.2,
@@ -65,8 +60,8 @@ module _ (e : Equations) (old new : System) (vars : List ℕ) (r : Represents e 
             let few = size in
             let inside = slice_get_within more x n there in
             let h : x < rule.vars = omega arith in
-            let same : new_variable old x ≡ n = same_Some (new_variable old x) n (sym (known x h) ∙ there) in
-            ap (λ n. value u.0 n path) (sym same) ∙ u.3 x h path,
+            let own : new_variable old x ≡ n = same_Some (new_variable old x) n (sym (known x h) ∙ there) in
+            ap (λ n. value u.0 n path) (sym own) ∙ u.3 x h path,
       )
 
   body-denoted : (goals : List Goal) (copies : List BodyGoal) → All (IsRulePart rule.vars) (flat_map parts_of_goal goals) → AllPaired (IsGoalOf new (new_variable old)) goals copies
@@ -75,7 +70,7 @@ module _ (e : Equations) (old new : System) (vars : List ℕ) (r : Represents e 
   body-denoted [] (c ∷ copies) parts h = absurd h
   body-denoted (g ∷ goals) [] parts h = absurd h
   body-denoted (goal.Call term ∷ goals) (copied.Call node ∷ copies) parts h = (
-    denotes_term e old new vars r goes scoped rule.vars more size within (new_variable old) known term node
+    denotes_term e old new vars r sound made.grows scoped rule.vars more size within e.equal (new_variable old) known term node
         (over-parts rule.vars term (all-before (IsRulePart rule.vars) (parts_of term) (flat_map parts_of_goal goals) parts)) h.0,
     body-denoted goals copies (all-after (IsRulePart rule.vars) (parts_of term) (flat_map parts_of_goal goals) parts) h.1,
   )
@@ -85,9 +80,10 @@ module _ (e : Equations) (old new : System) (vars : List ℕ) (r : Represents e 
 
   pub copied_denotes : IsCopied e old new vars rule copy
   copied_denotes = record {
-    represents = represents_variables e old new vars r goes scoped rule.vars more size within takes;
-    denotes = denotes_still e old new vars r goes scoped rule.vars more size within;
-    head = denotes_term e old new vars r goes scoped rule.vars more size within (new_variable old) known rule.head copy.head
+    represents = represents_variables e old new vars r sound made.grows scoped rule.vars more size within e.equal (λ w h. h)
+        (earlier-hold e old new vars r sound made.grows scoped rule.vars more size within e.equal) takes;
+    denotes = denotes_still e old new vars r sound made.grows scoped rule.vars more size within e.equal;
+    head = denotes_term e old new vars r sound made.grows scoped rule.vars more size within e.equal (new_variable old) known rule.head copy.head
         (over-parts rule.vars rule.head (head-parts rule is)) made.head;
     body = body-denoted rule.body copy.body (body-parts rule is) made.body;
   }

@@ -5,7 +5,7 @@ use Rattle.std.proofs.lemmas.Option.{slice_get-map, slice_get_within, get_or_fro
 use Rattle.std.proofs.lemmas.List.Elements.{All-head, All-tail, All-weaker, All-get_or}
 use Rattle.mars_tree.specs.Graph.{at}
 use Rattle.mars_store.specs.Valuation.{Valuation, value}
-use Rattle.mars_store.specs.System.{System}
+use Rattle.mars_store.specs.System.{System, IsSystem, Grows}
 use Rattle.mars_store.specs.Solutions.{InSol}
 use Rattle.mars_store.specs.Growing.{Continues, cut}
 use Rattle.mars_store.proofs.CallerLemmas.{restricted, older-value, trees_stay}
@@ -39,32 +39,43 @@ stays size vars inside old is v u sol on more x path = go (slice_get vars x) ref
         let each = sol.valuation.each in
         of-var vars u x n e (omega arith) path ∙ trees_stay (length old.nodes) v u sol.valuation on n (omega arith) path ∙ sym (of-var vars v x n e (omega arith) path)
 
-module _ (e : Equations) (old new : System) (vars : List ℕ) (r : Represents e old vars) (g : GoesOn old new) where
+module _ (e : Equations) (old new : System) (vars : List ℕ) (r : Represents e old vars) (sound : IsSystem old) (grows : Grows old new) where
   vars-cut : (v : Valuation) → of_vars vars (cut (length old.nodes) v) ≡ of_vars vars v
   vars-cut v = ap (λ (ns : List ℕ). record { graph = v.graph; nodes = ns })
       (map-same (slice_index (take (length old.nodes) v.nodes)) (slice_index v.nodes) (length old.nodes) vars r.inside (λ x h. get_or-take (length old.nodes) v.nodes x 0 h))
 
+  -- a node denotes what it denoted
   pub denotes_more : (n : ℕ) (subject : Subject) → Denotes e old vars n subject → Denotes e new vars n subject
   denotes_more n subject st = record {
-    inside = let h = st.inside in let more = g.grows.more_nodes in omega arith;
+    inside = let h = st.inside in let more = grows.more_nodes in omega arith;
     tree = λ v sol path.
-        sym (older-value old new g.sound g.grows v sol n st.inside path)
+        sym (older-value old new sound grows v sol n st.inside path)
         ∙ subst (λ (u : Valuation). value (cut (length old.nodes) v) n path ≡ subject_value e.kept u subject path) (vars-cut v)
-        (st.tree (cut (length old.nodes) v) (restricted old new g.sound g.grows v sol) path);
+        (st.tree (cut (length old.nodes) v) (restricted old new sound grows v sol) path);
   }
 
-  pub represents_more : Represents e new vars
-  represents_more = record {
+  -- a solution of the system that has grown solves the equations still
+  pub solves_more : (v : Valuation) → InSol new v → Solves e (of_vars vars v)
+  solves_more v sol = subst (Solves e) (vars-cut v) (r.solves (cut (length old.nodes) v) (restricted old new sound grows v sol))
+
+  pub more-long : (v u : Valuation) → InSol old v → InSol new u → length v.nodes ≤ length u.nodes
+  more-long v u sol here = let a = sol.valuation.each in let b = here.valuation.each in let more = grows.more_nodes in omega arith
+
+pub kept_by : (e : Equations) (old new : System) (vars : List ℕ) → Represents e old vars → GoesOn old new → IsKeptBy e old new vars
+kept_by e old new vars r g = record {
+  represents = record {
     one_each = r.one_each;
     inside = let more = g.grows.more_nodes in All-weaker (λ n. n < length old.nodes) (λ n. n < length new.nodes) (λ n h. omega arith) vars r.inside;
-    solves = λ v sol. subst (Solves e) (vars-cut v) (r.solves (cut (length old.nodes) v) (restricted old new g.sound g.grows v sol));
+    solves = solves_more e old new vars r g.sound g.grows;
     solved = λ w k.
         let v = r.solved w k in
-        let u = g.on v.0 v.1 in
-        let few : length v.0.nodes ≤ length u.0.nodes =
-        let a = v.1.valuation.each in let b = u.1.valuation.each in let more = g.grows.more_nodes in omega arith in
-        (u.0, u.1, record { along = λ x path. stays (length old.nodes) vars r.inside old refl v.0 u.0 v.1 u.2 few x path ∙ v.2.along x path });
-  }
-
-  pub kept_by : IsKeptBy e old new vars
-  kept_by = record { represents = represents_more; denotes = denotes_more }
+        let u = g.on v.0 v.1 in (
+          u.0,
+          u.1,
+          record {
+            along = λ x path. stays (length old.nodes) vars r.inside old refl v.0 u.0 v.1 u.2 (more-long e old new vars r g.sound g.grows v.0 u.0 v.1 u.1) x path ∙ v.2.along x path;
+          },
+        );
+  };
+  denotes = denotes_more e old new vars r g.sound g.grows;
+}

@@ -6,3 +6,6 @@ pub mod Terms
 pub mod Growing
 pub mod Variables
 pub mod Copied
+pub mod Matched
+pub mod Answered
+pub mod Building

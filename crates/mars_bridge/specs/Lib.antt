@@ -5,3 +5,6 @@ pub mod Scoped
 pub mod BridgeLaws
 pub mod WakingLaws
 pub mod TermLaws
+pub mod MatchedLaws
+pub mod AnsweredLaws
+pub mod BuildingLaws

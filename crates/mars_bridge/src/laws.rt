@@ -1,5 +1,8 @@
 //! What holds of nodes holds of the terms which they denote.
+ghost use Rattle.mars_bridge.specs.AnsweredLaws.{AnswerDenoted, VariablesDenoted, RootsDenoted};
 ghost use Rattle.mars_bridge.specs.BridgeLaws.{NodeTellsSubject, PairTellsSubjects, DifsTell, EqualRepresented};
+ghost use Rattle.mars_bridge.specs.BuildingLaws.{EmptyRepresented, FreeRepresented, FreeDenotes, NodeKeeps, LabelDenotes, KeptDenotes, EqualScoped, CallScoped};
+ghost use Rattle.mars_bridge.specs.MatchedLaws.{MatchedRepresents, RefusedUnsolvable};
 ghost use Rattle.mars_bridge.specs.TermLaws.{AlikeTermsSame};
 ghost use Rattle.mars_bridge.specs.Scoped.{MoreNodesKeep, CopiesDenoteRules};
 ghost use Rattle.mars_bridge.specs.WakingLaws.{RootTells, KidsDenoteParts, NumberTells, WakingTells};
@@ -37,4 +40,32 @@ pub fn nodes_keep()
 /// those of the copy the terms of the rule, renamed to the new variables.
 pub fn copies_denote()
     ensures { CopiesDenoteRules }
+{}
+
+/// After a head was matched and the body built the system represents the equations of the call by the rule, and the nodes of
+/// the body denote its goals. Where the head is refused these equations have no solution.
+pub fn calls_represented()
+    ensures matched { MatchedRepresents }
+    ensures refused { RefusedUnsolvable }
+{}
+
+/// The answer graph of nodes is that of the terms that they denote; the nodes of variables denote these, and the roots of an
+/// answer the roots of the terms'.
+pub fn answers_denoted()
+    ensures answer { AnswerDenoted }
+    ensures variables { VariablesDenoted }
+    ensures roots { RootsDenoted }
+{}
+
+/// A system without variables represents no equations; a free node more is a variable more, and any node more keeps what is
+/// represented; a label over nodes of arguments denotes a term, and a kept tree's node its name. Equations stay scoped.
+pub fn nodes_build()
+    ensures empty { EmptyRepresented }
+    ensures variable { FreeRepresented }
+    ensures denotes { FreeDenotes }
+    ensures node { NodeKeeps }
+    ensures label { LabelDenotes }
+    ensures kept { KeptDenotes }
+    ensures equal { EqualScoped }
+    ensures call { CallScoped }
 {}

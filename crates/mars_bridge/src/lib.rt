@@ -3,4 +3,7 @@
 
 mod laws;
 
-pub use laws::{alike_terms_same, copies_denote, nodes_keep, nodes_tell, roots_tell};
+pub use laws::{
+    alike_terms_same, answers_denoted, calls_represented, copies_denote, nodes_build, nodes_keep,
+    nodes_tell, roots_tell,
+};

@@ -4,3 +4,4 @@ pub mod Runs
 pub mod Ends
 pub mod Telling
 pub mod Rows
+pub mod CutRows

@@ -29,13 +29,13 @@ use Rattle.mars_machine.proofs.Values.{value-name, value-argument, value-variabl
 use Rattle.mars_machine.proofs.Ends.{ends_without_alternatives, stops_at_budget}
 
 -- x is an atom
-abbrev x_is : ℕ → Valuation
+abbrev pub x_is : ℕ → Valuation
 x_is name = record { graph = labelled (constant name) [] ∷ []; nodes = 0 ∷ [] }
 
 named-leaf : (name : ℕ) → (labelled (constant name) []).label ≡ None → ⊥
 named-leaf name e = cc
 
-x-valid : (name : ℕ) → IsValuation 1 (x_is name)
+pub x-valid : (name : ℕ) → IsValuation 1 (x_is name)
 x-valid name = record {
   graph = All-cons (IsNode 1) (labelled (constant name) []) [] (record { kids = refl; in_range = All-nil (λ kid. kid < 1) }) (All-nil (IsNode 1));
   ground = All-cons (λ node. node.label ≢ None) (labelled (constant name) []) [] (named-leaf name) (All-nil (λ node. node.label ≢ None));
@@ -44,31 +44,31 @@ x-valid name = record {
 }
 
 -- x and an atom, as the arguments of a built-in
-abbrev x_call : BuiltIn → ℕ → Subject
+abbrev pub x_call : BuiltIn → ℕ → Subject
 x_call built_in name = built_call built_in (Var 0 ∷ atom name ∷ [])
 
-abbrev x_pair : BuiltIn → ℕ → Subject × Subject
+abbrev pub x_pair : BuiltIn → ℕ → Subject × Subject
 x_pair built_in name = (Part (x_call built_in name) 0, Part (x_call built_in name) 1)
 
 -- what the arguments of a call show
-argument-value : (v : Valuation) (built_in : BuiltIn) (terms : List Term) (place : ℕ) (path : List ℕ)
+pub argument-value : (v : Valuation) (built_in : BuiltIn) (terms : List Term) (place : ℕ) (path : List ℕ)
     → subject_value [] v (Part (built_call built_in terms) place) path ≡ option_and_then (λ term. subject_value [] v (Renamed 0 term) path) (slice_get terms place)
 argument-value v built_in terms place path = value-argument [] v 0 (record { 0 = built_in_name built_in }) terms place path
 
-x-value : (v : Valuation) (built_in : BuiltIn) (terms : List Term) (path : List ℕ) → subject_value [] v (Part (built_call built_in (Var 0 ∷ terms)) 0) path ≡ value v 0 path
+pub x-value : (v : Valuation) (built_in : BuiltIn) (terms : List Term) (path : List ℕ) → subject_value [] v (Part (built_call built_in (Var 0 ∷ terms)) 0) path ≡ value v 0 path
 x-value v built_in terms path = argument-value v built_in (Var 0 ∷ terms) 0 path ∙ value-variable [] v 0 0 path
 
-second-value : (v : Valuation) (built_in : BuiltIn) (name : ℕ) (path : List ℕ) → subject_value [] v (x_pair built_in name).1 path ≡ subject_value [] v (Renamed 0 (atom name)) path
+pub second-value : (v : Valuation) (built_in : BuiltIn) (name : ℕ) (path : List ℕ) → subject_value [] v (x_pair built_in name).1 path ≡ subject_value [] v (Renamed 0 (atom name)) path
 second-value v built_in name path = argument-value v built_in (Var 0 ∷ atom name ∷ []) 1 path
 
-atom-root : (v : Valuation) (name : ℕ) → subject_value [] v (Renamed 0 (atom name)) [] ≡ Some (at_label (constant name))
+pub atom-root : (v : Valuation) (name : ℕ) → subject_value [] v (Renamed 0 (atom name)) [] ≡ Some (at_label (constant name))
 atom-root v name = value-name [] v 0 (record { 0 = name }) []
 
 atom-same : (name : ℕ) (path : List ℕ) → value (x_is name) 0 path ≡ subject_value [] (x_is name) (Renamed 0 (atom name)) path
 atom-same name [] = sym (atom-root (x_is name) name)
 atom-same name (place ∷ path) = sym (value-argument [] (x_is name) 0 (record { 0 = name }) [] place path)
 
-x-same : (built_in : BuiltIn) (name : ℕ) (path : List ℕ) → subject_value [] (x_is name) (x_pair built_in name).0 path ≡ subject_value [] (x_is name) (x_pair built_in name).1 path
+pub x-same : (built_in : BuiltIn) (name : ℕ) (path : List ℕ) → subject_value [] (x_is name) (x_pair built_in name).0 path ≡ subject_value [] (x_is name) (x_pair built_in name).1 path
 x-same built_in name path = x-value (x_is name) built_in (atom name ∷ []) path ∙ atom-same name path ∙ sym (second-value (x_is name) built_in name path)
 
 -- no equation yet, and `x = a`
@@ -96,7 +96,7 @@ shown-number (Some (at_label (Str spelling))) = 0
 shown-number (Some (free n)) = 0
 shown-number None = 0
 
-two-names : Some (at_label (constant 14)) ≡ Some (at_label (constant 13)) → ⊥
+pub two-names : Some (at_label (constant 14)) ≡ Some (at_label (constant 13)) → ⊥
 unfolding shown-number
 two-names e = let same : ◌≡◌ {A = ℕ} 14 13 = ap shown-number e in absurd (omega (arith, same))
 
@@ -115,7 +115,7 @@ x-known name built_in terms = (
 )
 
 -- a call of a built-in is one
-called : (e : Equations) (built_in : BuiltIn) (terms : List Term) → HasBuiltIn One built_in → length terms ≡ built_in_arity built_in → CallsBuiltIn One e (built_call built_in terms) built_in
+pub called : (e : Equations) (built_in : BuiltIn) (terms : List Term) → HasBuiltIn One built_in → length terms ≡ built_in_arity built_in → CallsBuiltIn One e (built_call built_in terms) built_in
 called e built_in terms has size = (
   has,
   λ v s. value-name e.kept v 0 (record { 0 = built_in_name built_in }) terms ∙ ap (λ n. Some (at_label (Name (record { 0 = built_in_name built_in }) n))) size,

@@ -41,7 +41,7 @@ waking_once e (pair ∷ frozen) left other goals others (wake-waits n w) (wake-w
     let r = waking_once e frozen _ _ goals others w t in (r.0, ap (λ left. pair ∷ left) r.1)
 
 -- what is shown at a root tells its label
-shown-label : (a b : Label) → Some (at_label a) ≡ Some (at_label b) → a ≡ b
+pub shown-label : (a b : Label) → Some (at_label a) ≡ Some (at_label b) → a ≡ b
 shown-label a b e = cc
 
 shown-integer : (x y : ℤ) → Some (at_label (Int x)) ≡ Some (at_label (Int y)) → x ≡ y

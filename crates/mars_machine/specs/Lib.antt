@@ -15,3 +15,4 @@ pub mod TellingLaws
 -- Worked rows.
 pub mod RowTerms
 pub mod DerivationRows
+pub mod CutRows

@@ -2,6 +2,7 @@
 ghost use Rattle.mars_machine.specs.StepLaws.{WakingIsOne, TermNumberIsOne, RuleChildrenAreOne, BuiltInChildIsOne, StepIsOne, StepStaysSolvable};
 ghost use Rattle.mars_machine.specs.RunLaws.{StartIsSolvable, DerivationIsOne, EndIsOne};
 ghost use Rattle.mars_machine.specs.TellingLaws.{TermAnswerIsOne, OpenIsOne, LeftIsOne, AskedIsOne};
+ghost use Rattle.mars_machine.specs.CutRows.{CutRows};
 ghost use Rattle.mars_machine.specs.DerivationRows.{DerivationRows, EndsWithoutAlternatives, StopsAtBudget};
 
 /// A step of a state whose alternatives have solutions has one result: which goals wake, which children the rules give,
@@ -40,5 +41,6 @@ pub fn telling_is_one()
 
 /// The definitions on small asks: what their steps say, and how they end.
 pub fn derivation_rows()
-    ensures { DerivationRows }
+    ensures small { DerivationRows }
+    ensures cut { CutRows }
 {}

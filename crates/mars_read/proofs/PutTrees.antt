@@ -1,5 +1,5 @@
 -- A tree that is put has at most a node for each token of its text.
-use Rattle.std.proofs.Common.{◌≡◌, ◌≤◌, ◌<◌, List, length, ap, ◌∙◌, refl, arith}
+use Rattle.std.proofs.Common.{◌≡◌, ◌<◌, length, ap, ◌∙◌, refl, arith}
 use Rattle.mars_grammar.specs.Building.{performs}
 use Rattle.mars_forms.specs.declared.table.TheConstants.{TREE}
 use Rattle.mars_graphs.specs.Steps.{nothing_written, writes_all}
@@ -18,8 +18,8 @@ pub puts-small : PutsAreSmall
 puts-small two m tokens events d v told new =
     let es = events_told v events in
     let made : (performs scripts_making es told).tree.graph ≡ makes_all nothing_made (steps_told es) =
-        ap (λ (tree : TreeMaker). tree.graph) (tells-tree es told (tree-no_ends two m TREE.now tokens events d v refl)) ∙ makes-told es told.tree ∙
-        ap (λ (g : Making). makes_all g (steps_told es)) new in
+    ap (λ (tree : TreeMaker). tree.graph) (tells-tree es told (tree-no_ends two m TREE.now tokens events d v refl)) ∙ makes-told es told.tree ∙
+    ap (λ (g : Making). makes_all g (steps_told es)) new in
     let left = terms-left two m TREE.now tokens events d v nothing_written refl in
     let some : 0 < length (writes_all nothing_written (steps_told es)).terms = omega (arith, left) in
     omega (

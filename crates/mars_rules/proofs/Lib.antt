@@ -10,3 +10,5 @@ pub mod RuleParts
 pub mod Laid
 pub mod LaidRules
 pub mod Found
+pub mod Taken
+pub mod Turned

@@ -25,7 +25,7 @@ pub(crate) fn lay_rule(alloc: Global, rule: &Rule) -> Result<FlatRule, NoMemory>
 {
     let vars = rule.vars as usize;
     let mut nodes = lay_vars(alloc, vars)?;
-    let head = lay_term(alloc, vars, &mut nodes, &rule.head)?;
+    let head = lay_head(alloc, vars, &mut nodes, &rule.head)?;
     let goals = lay_goals(alloc, vars, &mut nodes, rule.body.as_slice())?;
     Ok(FlatRule {
         template: Template { nodes, vars, head },
@@ -42,6 +42,46 @@ fn lay_vars(alloc: Global, vars: usize) -> Result<Graph, NoMemory>
         nodes.add_free()?;
     }
     Ok(nodes)
+}
+
+/// Adds the nodes of a head, and gives its place. Those of its last argument come first: heads are matched from the last
+/// place down, so the first argument is matched first.
+fn lay_head(alloc: Global, vars: usize, nodes: &mut Graph, head: &Term) -> Result<usize, NoMemory>
+    requires layout { IsLayout vars nodes.old }
+    requires parts { All (IsRulePart vars) (parts_of head.now) }
+    ensures { IfOk result (λ place. IsLaidOut vars nodes.old nodes.new head.now place) }
+{
+    match head {
+        Term::Name(name, terms) => {
+            let kids = lay_last_first(alloc, vars, nodes, terms.as_slice())?;
+            let label = Label::Name {
+                name: *name,
+                arity: kids.len() as u32,
+            };
+            lay_node(nodes, label, &kids)
+        }
+        _ => lay_term(alloc, vars, nodes, head),
+    }
+}
+
+/// Adds the nodes of terms, from the last term on, and gives the places of the terms in order.
+fn lay_last_first(
+    alloc: Global,
+    vars: usize,
+    nodes: &mut Graph,
+    terms: &[Term],
+) -> Result<Vec<usize>, NoMemory>
+    requires layout { IsLayout vars nodes.old }
+    requires parts { All (IsRulePart vars) (flat_map parts_of terms.now) }
+    ensures { IfOk result (λ places. AreLaidTerms vars nodes.old nodes.new terms.now (length terms.now) places.items) }
+{
+    let mut places = Vec::new(alloc);
+    for back in 0..terms.len() {
+        let term = &terms[terms.len() - 1 - back];
+        places.push(lay_term(alloc, vars, nodes, term)?)?;
+    }
+    places.reverse();
+    Ok(places)
 }
 
 /// Adds the nodes of goals, and gives their places.

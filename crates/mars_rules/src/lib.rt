@@ -6,9 +6,11 @@ mod copying;
 mod flat;
 mod goals;
 mod keys;
+mod laws;
 mod laying;
 mod places;
 
 pub use base::RuleBase;
 pub use flat::{FlatGoal, FlatRule};
 pub use goals::{BodyGoal, BodyGoals, Instance};
+pub use laws::rules_are_taken;

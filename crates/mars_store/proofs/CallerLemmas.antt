@@ -17,3 +17,5 @@ pub use Rattle.mars_store.proofs.Solving.{cases-label, same-label, name-of, labe
 -- trees in a solution
 pub use Rattle.mars_store.proofs.Solving.{plain-value, solution-last, solution-over}
 pub use Rattle.mars_store.proofs.Growing.{over-same, older-value, restricted, agree-cut, agree-back, start-old, start-new, start-solves}
+-- the node that a list has at a place
+pub use Rattle.mars_store.proofs.Found.{found-is}

@@ -1,4 +1,5 @@
 pub mod CallerLemmas
+mod Found
 mod Growing
 mod Links
 mod Marks

@@ -1,5 +1,5 @@
 -- Systems of equations, as which a store of nodes and bindings is seen.
-use Rattle.std.specs.Prelude.{◌≡◌, ◌≢◌, ℕ, ◌+◌, ◌<◌, ◌≤◌, List, [], ◌∷◌, ◌++◌, length, take, slice_index_or, All, Option, Some, None, if◌then◌else◌, ◌==◌, nat_lt}
+use Rattle.std.specs.Prelude.{◌≡◌, ◌≢◌, ℕ, ◌+◌, ◌<◌, ◌≤◌, List, [], ◌∷◌, ◌++◌, length, take, slice_get, slice_index_or, All, Option, Some, None, if◌then◌else◌, ◌==◌, nat_lt}
 use Rattle.mars_tree.specs.declared.label.Label.{Label}
 use Rattle.mars_tree.specs.Graph.{Node, IsNode, label_of, free_leaf}
 use Rattle.mars_store.specs.declared.mark.Mark.{Mark}
@@ -63,6 +63,21 @@ linked system x y = record system { bound = system.bound ++ equation_of system.n
 -- the system with one node more
 abbrev pub with_node : System → Node → System
 with_node system node = record system { nodes = system.nodes ++ node ∷ [] }
+
+-- a node, or number 0 where there is none
+abbrev pub node_or_zero : Option ℕ → ℕ
+node_or_zero (Some n) = n
+node_or_zero None = 0
+
+-- the node that a list has at a place
+abbrev pub node_at : List (Option ℕ) → ℕ → ℕ
+node_at nodes place = node_or_zero (slice_index_or nodes place None)
+
+-- a list has a node at a place, and it is one of the first ones
+pub record IsNodeAt (nodes : List (Option ℕ)) (count place : ℕ) : Type 0 where
+  pub node : ℕ
+  pub has : slice_get nodes place ≡ Some (Some node)
+  pub inside : node < count
 
 -- how much a system has now
 abbrev pub mark_of : System → Mark

@@ -4,6 +4,7 @@
 mod laws;
 mod mark;
 mod node_id;
+mod nodes;
 mod store;
 
 pub use laws::{

@@ -1,14 +1,15 @@
 //! A store of nodes and bindings, seen as a system of equations.
-ghost use Rattle.std.specs.Prelude.{◌≡◌, ◌≢◌, ◌<◌, ◌≤◌, ◌++◌, ◌∷◌, [], length, slice_get, slice_set, Some, None, OnOk, OnErr, IfOk, All, MatchOption};
+ghost use Rattle.std.specs.Prelude.{◌≡◌, ◌≢◌, ◌<◌, ◌≤◌, ◌++◌, ◌∷◌, [], length, map, slice_get, slice_set, Some, None, OnOk, OnErr, IfOk, All, MatchOption};
 ghost use Rattle.mars_tree.specs.Label.{arity_of};
 ghost use Rattle.mars_tree.specs.Graph.{arity_at, label_of, kids_of, labelled, free_leaf};
-ghost use Rattle.mars_store.specs.System.{IsSystem, IsUnbound, IsMark, resolve, linked, equation_of, with_node, mark_of, undone};
+ghost use Rattle.mars_store.specs.System.{IsSystem, IsUnbound, IsMark, resolve, linked, equation_of, with_node, IsNodeAt, node_at, mark_of, undone};
 ghost use Rattle.mars_store.specs.Laws.{IsForced, IsUnforced};
 
 use crate::mark::Mark;
 use crate::node_id::NodeId;
+use crate::nodes::Nodes;
 use mars_base::NoMemory;
-use mars_tree::{Graph, Label};
+use mars_tree::Label;
 use std::alloc::Global;
 use std::marker::Model;
 
@@ -16,7 +17,7 @@ use std::marker::Model;
 /// A node that isn't bound is linked to itself. At `NoMemory` each call leaves the store as before.
 #[derive(Drop)]
 pub struct Store {
-    nodes: Graph,
+    nodes: Nodes,
     links: Vec<usize>,
     trail: Vec<(usize, usize)>,
 }
@@ -39,13 +40,14 @@ impl Store {
         ensures { result ≡ record { nodes = []; bound = [] } }
     {
         Store {
-            nodes: Graph::new(alloc),
+            nodes: Nodes::new(alloc),
             links: Vec::new(alloc),
             trail: Vec::new(alloc),
         }
     }
 
     /// Adds a node with a label over kids, linear in these.
+    #[inline]
     pub fn add(&mut self, label: Label, kids: &[NodeId]) -> Result<NodeId, NoMemory>
         requires arity { length kids.now ≡ arity_of label }
         requires inside { All (λ kid. kid < length self.old.nodes) kids.now }
@@ -57,6 +59,7 @@ impl Store {
     }
 
     /// Adds a variable.
+    #[inline]
     pub fn add_free(&mut self) -> Result<NodeId, NoMemory>
         ensures node { IfOk result (λ node. node ≡ length self.old.nodes) }
         ensures ok { OnOk result (self.new ≡ with_node self.old free_leaf) }
@@ -65,6 +68,28 @@ impl Store {
         self.push(None, &[])
     }
 
+    /// Adds a node with a label over the nodes that a list has at places, linear in these.
+    #[inline]
+    pub fn add_over(
+        &mut self,
+        label: Label,
+        places: &[usize],
+        nodes: &[Option<NodeId>],
+    ) -> Result<NodeId, NoMemory>
+        requires arity { length places.now ≡ arity_of label }
+        requires filled { All (IsNodeAt nodes.now (length self.old.nodes)) places.now }
+        ensures node { IfOk result (λ node. node ≡ length self.old.nodes) }
+        ensures ok { OnOk result (self.new ≡ with_node self.old (labelled label (map (node_at nodes.now) places.now))) }
+        ensures err { OnErr result (self.new ≡ self.old) }
+    {
+        let node = self.links.len();
+        self.links.reserve(1)?;
+        self.nodes.push_over(label, places, nodes)?;
+        self.links.push_reserved(node);
+        Ok(NodeId(node))
+    }
+
+    #[inline]
     fn push(&mut self, label: Option<Label>, kids: &[NodeId]) -> Result<NodeId, NoMemory>
         requires arity { length kids.now ≡ arity_at label }
         requires inside { All (λ kid. kid < length self.old.nodes) kids.now }
@@ -74,13 +99,14 @@ impl Store {
     {
         let node = self.links.len();
         self.links.reserve(1)?;
-        self.nodes.add_node(label, kids)?;
+        self.nodes.push(label, kids)?;
         self.links.push_reserved(node);
         Ok(NodeId(node))
     }
 
     /// Makes a free variable, itself an end of links, equal to the other end that a node's links lead to:
     /// of two variables the younger is linked to the older. Linear in the links.
+    #[inline]
     pub fn bind(&mut self, var: NodeId, to: NodeId) -> Result<(), NoMemory>
         requires var_in { var < length self.old.nodes }
         requires free { label_of self.old.nodes var ≡ None }
@@ -98,6 +124,7 @@ impl Store {
     }
 
     /// The equation of two ends of links, from the younger variable to the other.
+    #[inline]
     fn in_order(&self, var: usize, last: usize) -> (usize, usize)
         requires free { label_of self.now.nodes var ≡ None }
         requires last_in { last < length self.now.nodes }
@@ -110,6 +137,7 @@ impl Store {
     }
 
     /// The end of a node's links, linear in these.
+    #[inline]
     pub fn deref(&self, node: NodeId) -> NodeId
         requires { node < length self.now.nodes }
         ensures end { result ≡ resolve self.now.bound node }
@@ -124,7 +152,17 @@ impl Store {
         NodeId(last)
     }
 
+    /// The label that a node was added with, `None` exactly for a variable; links aren't followed.
+    #[inline]
+    pub fn label(&self, node: NodeId) -> Option<Label>
+        requires { node < length self.now.nodes }
+        ensures { result ≡ label_of self.now.nodes node }
+    {
+        self.nodes.label(node.0)
+    }
+
     /// The label at the root of a node's tree, `None` exactly where it isn't forced.
+    #[inline]
     pub fn root_label(&self, node: NodeId) -> Option<Label>
         requires { node < length self.now.nodes }
         ensures label { result ≡ label_of self.now.nodes (resolve self.now.bound node) }
@@ -136,6 +174,7 @@ impl Store {
     }
 
     /// The kid at a place of the root of a node's tree.
+    #[inline]
     pub fn kid(&self, node: NodeId, place: usize) -> NodeId
         requires inside { node < length self.now.nodes }
         requires place { place < length (kids_of self.now.nodes (resolve self.now.bound node)) }
@@ -144,7 +183,7 @@ impl Store {
         ensures system { IsSystem self.now }
     {
         let last = self.deref(node);
-        NodeId(self.nodes.kid(last.0, place))
+        self.nodes.kid(last.0, place)
     }
 
     /// The equation at a place of the trail, counted from 0 in the order of binding.
@@ -157,6 +196,7 @@ impl Store {
     }
 
     /// The present state.
+    #[inline]
     pub fn mark(&self) -> Mark
         ensures mark { result ≡ mark_of self.now }
         ensures system { IsSystem self.now }

@@ -1,9 +1,8 @@
 //! Random calls of two callers on `Rows` and on a plain list of rows, answer by answer.
 use crate::called;
-use crate::drawn::{Sample, draw_sample};
-use crate::listed::{Listed, Reply};
 use mars_base::NoMemory;
 use mars_rows::Rows;
+use plain_table::{PlainReply, PlainTable, draw_sample};
 use rows::{Draw, Stop, push_number};
 use std::alloc::Global;
 
@@ -11,7 +10,7 @@ use std::alloc::Global;
 #[derive(Drop)]
 pub struct Beside {
     pub rows: Rows,
-    listed: Listed,
+    listed: PlainTable,
 }
 
 impl Beside {
@@ -19,7 +18,7 @@ impl Beside {
     pub fn new(alloc: Global, cap: u64) -> Beside {
         Beside {
             rows: Rows::new(alloc, cap),
-            listed: Listed::new(alloc, cap),
+            listed: PlainTable::new(alloc, cap),
         }
     }
 }
@@ -59,22 +58,22 @@ impl Tally {
     }
 
     /// Counts an answer, before which there were so many rows and the next number was `next`.
-    fn count(&mut self, reply: Reply, before: Reply, after: Reply) {
+    fn count(&mut self, reply: PlainReply, before: PlainReply, after: PlainReply) {
         let count = match reply {
-            Reply::Root(_) if rows_in(after) < rows_in(before) => &mut self.by_sweep,
-            Reply::Root(_) if after == before => &mut self.again,
-            Reply::Root(_) => &mut self.kept,
-            Reply::Full { rows: _, fresh: _ } => &mut self.full,
-            Reply::Found(Some(_)) => &mut self.found,
-            Reply::Found(None) => &mut self.missed,
-            Reply::Pinned(true) => &mut self.pinned,
-            Reply::Pinned(false) => &mut self.no_row,
-            Reply::Unpinned(true) => &mut self.unpinned,
-            Reply::Unpinned(false) => &mut self.no_pin,
-            Reply::Swept(0) => return,
-            Reply::Swept(_) => &mut self.swept,
-            Reply::Counted(_, _, _) => return,
-            Reply::Ended => return,
+            PlainReply::Root(_) if rows_in(after) < rows_in(before) => &mut self.by_sweep,
+            PlainReply::Root(_) if after == before => &mut self.again,
+            PlainReply::Root(_) => &mut self.kept,
+            PlainReply::Full { rows: _, fresh: _ } => &mut self.full,
+            PlainReply::Found(Some(_)) => &mut self.found,
+            PlainReply::Found(None) => &mut self.missed,
+            PlainReply::Pinned(true) => &mut self.pinned,
+            PlainReply::Pinned(false) => &mut self.no_row,
+            PlainReply::Unpinned(true) => &mut self.unpinned,
+            PlainReply::Unpinned(false) => &mut self.no_pin,
+            PlainReply::Swept(0) => return,
+            PlainReply::Swept(_) => &mut self.swept,
+            PlainReply::Counted(_, _, _) => return,
+            PlainReply::Ended => return,
         };
         *count = count.saturating_add(1);
     }
@@ -104,9 +103,9 @@ impl Tally {
 }
 
 /// The rows that counts say.
-fn rows_in(reply: Reply) -> u64 {
+fn rows_in(reply: PlainReply) -> u64 {
     match reply {
-        Reply::Counted(rows, _, _) => rows,
+        PlainReply::Counted(rows, _, _) => rows,
         _ => 0,
     }
 }
@@ -133,7 +132,11 @@ fn draw_pin(beside: &Beside, draw: &mut Draw) -> (u32, u128) {
 }
 
 /// Adds a tree to both.
-fn both_add(alloc: Global, beside: &mut Beside, draw: &mut Draw) -> Result<(Reply, Reply), Stop> {
+fn both_add(
+    alloc: Global,
+    beside: &mut Beside,
+    draw: &mut Draw,
+) -> Result<(PlainReply, PlainReply), Stop> {
     let sample = draw_sample(alloc, draw)?;
     let left = called::add(&mut beside.rows, &sample.tree)?;
     let right = beside.listed.add(sample.form.graph())?;
@@ -141,7 +144,11 @@ fn both_add(alloc: Global, beside: &mut Beside, draw: &mut Draw) -> Result<(Repl
 }
 
 /// Finds a node of a tree in both.
-fn both_find(alloc: Global, beside: &Beside, draw: &mut Draw) -> Result<(Reply, Reply), Stop> {
+fn both_find(
+    alloc: Global,
+    beside: &Beside,
+    draw: &mut Draw,
+) -> Result<(PlainReply, PlainReply), Stop> {
     let sample = draw_sample(alloc, draw)?;
     let node = draw.below(4);
     let left = called::find(&beside.rows, &sample.tree, node)?;
@@ -150,14 +157,14 @@ fn both_find(alloc: Global, beside: &Beside, draw: &mut Draw) -> Result<(Reply, 
 }
 
 /// Puts a pin on a row of both.
-fn both_pin(beside: &mut Beside, who: u32, number: u128) -> Result<(Reply, Reply), Stop> {
+fn both_pin(beside: &mut Beside, who: u32, number: u128) -> Result<(PlainReply, PlainReply), Stop> {
     let left = called::pin(&mut beside.rows, who, number)?;
     let right = beside.listed.pin(who, number)?;
     Ok((left, right))
 }
 
 /// Takes a pin off a row of both.
-fn both_unpin(beside: &mut Beside, draw: &mut Draw) -> (Reply, Reply) {
+fn both_unpin(beside: &mut Beside, draw: &mut Draw) -> (PlainReply, PlainReply) {
     let (who, number) = draw_pin(beside, draw);
     let left = called::unpin(&mut beside.rows, who, number);
     let right = beside.listed.unpin(who, number);
@@ -165,14 +172,18 @@ fn both_unpin(beside: &mut Beside, draw: &mut Draw) -> (Reply, Reply) {
 }
 
 /// Sweeps both.
-fn both_sweep(beside: &mut Beside) -> Result<(Reply, Reply), Stop> {
+fn both_sweep(beside: &mut Beside) -> Result<(PlainReply, PlainReply), Stop> {
     let left = called::sweep(&mut beside.rows)?;
     let right = beside.listed.sweep()?;
     Ok((left, right))
 }
 
 /// Makes a call on both.
-fn both_call(alloc: Global, beside: &mut Beside, draw: &mut Draw) -> Result<(Reply, Reply), Stop> {
+fn both_call(
+    alloc: Global,
+    beside: &mut Beside,
+    draw: &mut Draw,
+) -> Result<(PlainReply, PlainReply), Stop> {
     match draw.below(10) {
         0 | 1 | 2 | 3 => both_add(alloc, beside, draw),
         4 => both_find(alloc, beside, draw),
@@ -186,13 +197,17 @@ fn both_call(alloc: Global, beside: &mut Beside, draw: &mut Draw) -> Result<(Rep
 }
 
 /// Puts a pin on the root of a tree that was added, three times of four.
-fn pin_root(beside: &mut Beside, reply: Reply, draw: &mut Draw) -> Result<(Reply, Reply), Stop> {
+fn pin_root(
+    beside: &mut Beside,
+    reply: PlainReply,
+    draw: &mut Draw,
+) -> Result<(PlainReply, PlainReply), Stop> {
     match reply {
-        Reply::Root(number) if draw.below(4) > 0 => {
+        PlainReply::Root(number) if draw.below(4) > 0 => {
             let who = draw.below(2) as u32;
             both_pin(beside, who, number)
         }
-        _ => Ok((Reply::Pinned(true), Reply::Pinned(true))),
+        _ => Ok((PlainReply::Pinned(true), PlainReply::Pinned(true))),
     }
 }
 

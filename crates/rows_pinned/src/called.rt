@@ -1,56 +1,56 @@
 //! The calls of `Rows`, each with its condition tested first.
-use crate::listed::Reply;
 use mars_base::NoMemory;
 use mars_canon::Tree;
 use mars_rows::{Added, Rows};
+use plain_table::PlainReply;
 
 /// Adds a tree. At a number past 2^126 nothing is added.
-pub fn add(rows: &mut Rows, tree: &Tree) -> Result<Reply, NoMemory> {
+pub fn add(rows: &mut Rows, tree: &Tree) -> Result<PlainReply, NoMemory> {
     if rows.next_number() >= 1 << 126 {
-        return Ok(Reply::Ended);
+        return Ok(PlainReply::Ended);
     }
     match rows.add(tree)? {
-        Added::Root(number) => Ok(Reply::Root(number)),
-        Added::Full { rows, fresh } => Ok(Reply::Full { rows, fresh }),
+        Added::Root(number) => Ok(PlainReply::Root(number)),
+        Added::Full { rows, fresh } => Ok(PlainReply::Full { rows, fresh }),
     }
 }
 
 /// The number of the row that is a node's tree.
-pub fn find(rows: &Rows, tree: &Tree, node: usize) -> Result<Reply, NoMemory> {
+pub fn find(rows: &Rows, tree: &Tree, node: usize) -> Result<PlainReply, NoMemory> {
     if node < tree.len() {
-        Ok(Reply::Found(rows.find(tree, node)?))
+        Ok(PlainReply::Found(rows.find(tree, node)?))
     } else {
-        Ok(Reply::Found(None))
+        Ok(PlainReply::Found(None))
     }
 }
 
 /// One more pin, where the row is there.
-pub fn pin(rows: &mut Rows, who: u32, number: u128) -> Result<Reply, NoMemory> {
+pub fn pin(rows: &mut Rows, who: u32, number: u128) -> Result<PlainReply, NoMemory> {
     if !rows.has(number) {
-        return Ok(Reply::Pinned(false));
+        return Ok(PlainReply::Pinned(false));
     }
     rows.pin(who, number)?;
-    Ok(Reply::Pinned(true))
+    Ok(PlainReply::Pinned(true))
 }
 
 /// One pin less, where there is one.
-pub fn unpin(rows: &mut Rows, who: u32, number: u128) -> Reply {
+pub fn unpin(rows: &mut Rows, who: u32, number: u128) -> PlainReply {
     if !rows.is_pinned(who, number) {
-        return Reply::Unpinned(false);
+        return PlainReply::Unpinned(false);
     }
     rows.unpin(who, number);
-    Reply::Unpinned(true)
+    PlainReply::Unpinned(true)
 }
 
 /// The rows that no walk from a pin meets go.
-pub fn sweep(rows: &mut Rows) -> Result<Reply, NoMemory> {
-    Ok(Reply::Swept(rows.sweep()?))
+pub fn sweep(rows: &mut Rows) -> Result<PlainReply, NoMemory> {
+    Ok(PlainReply::Swept(rows.sweep()?))
 }
 
 /// How many rows and pins there are, and the next number.
-pub fn counts(rows: &Rows) -> Reply {
+pub fn counts(rows: &Rows) -> PlainReply {
     let (count, pins) = rows.counts();
-    Reply::Counted(count, pins, rows.next_number())
+    PlainReply::Counted(count, pins, rows.next_number())
 }
 
 /// The tree of a row, where it is there.

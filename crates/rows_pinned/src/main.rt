@@ -5,9 +5,6 @@
 mod away;
 mod beside;
 mod called;
-mod drawn;
-mod listed;
-mod plain;
 mod worked;
 
 use rows::{Stop, answer_rows, read_numbers};

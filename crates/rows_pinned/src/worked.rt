@@ -1,11 +1,11 @@
 //! Calls that are written in a row: `calls LIMIT CALL .. : TREE | TREE ..`. Each `add` and `find` takes the next tree, and
 //! an `add` is followed by a pin; `drop0`, `pin0` and `show0` are on number 0; `sweep` and `count` take nothing.
 use crate::called::{add, counts, find, pin, sweep, tree_of, unpin};
-use crate::listed::Reply;
 use mars_base::NoMemory;
 use mars_canon::Tree;
 use mars_rows::Rows;
 use mars_tree::Names;
+use plain_table::PlainReply;
 use rows::{Operand, Operands, Stop, canon_of, push_text, read_operands};
 use std::alloc::Global;
 
@@ -40,41 +40,41 @@ fn trees_from(alloc: Global, operands: &[Operand]) -> Result<Vec<Tree>, Stop> {
 }
 
 /// Writes what a call answers.
-fn push_reply(reply: Reply, cap: u64, into: &mut Vec<u8>) -> Result<(), NoMemory> {
+fn push_reply(reply: PlainReply, cap: u64, into: &mut Vec<u8>) -> Result<(), NoMemory> {
     let alloc = *into.allocator();
     let text = match reply {
-        Reply::Root(number) => format!(in alloc; "kept #{number}")?,
-        Reply::Full { rows, fresh } => format!(in alloc; "full {rows} + {fresh} > {cap}")?,
-        Reply::Found(Some(number)) => format!(in alloc; "found #{number}")?,
-        Reply::Found(None) => format!(in alloc; "not found")?,
-        Reply::Pinned(true) => format!(in alloc; "pinned")?,
-        Reply::Pinned(false) => format!(in alloc; "no row")?,
-        Reply::Unpinned(true) => format!(in alloc; "dropped")?,
-        Reply::Unpinned(false) => format!(in alloc; "no pin")?,
-        Reply::Swept(count) => format!(in alloc; "swept {count}")?,
-        Reply::Counted(rows, pins, _) => format!(in alloc; "rows {rows}, pins {pins}")?,
-        Reply::Ended => format!(in alloc; "no more numbers")?,
+        PlainReply::Root(number) => format!(in alloc; "kept #{number}")?,
+        PlainReply::Full { rows, fresh } => format!(in alloc; "full {rows} + {fresh} > {cap}")?,
+        PlainReply::Found(Some(number)) => format!(in alloc; "found #{number}")?,
+        PlainReply::Found(None) => format!(in alloc; "not found")?,
+        PlainReply::Pinned(true) => format!(in alloc; "pinned")?,
+        PlainReply::Pinned(false) => format!(in alloc; "no row")?,
+        PlainReply::Unpinned(true) => format!(in alloc; "dropped")?,
+        PlainReply::Unpinned(false) => format!(in alloc; "no pin")?,
+        PlainReply::Swept(count) => format!(in alloc; "swept {count}")?,
+        PlainReply::Counted(rows, pins, _) => format!(in alloc; "rows {rows}, pins {pins}")?,
+        PlainReply::Ended => format!(in alloc; "no more numbers")?,
     };
     into.extend_from_slice(text.as_bytes())?;
     Ok(())
 }
 
 /// Adds the next tree, with a pin on its root.
-fn add_next(running: &mut Running) -> Result<Reply, Stop> {
+fn add_next(running: &mut Running) -> Result<PlainReply, Stop> {
     let place = running.taken;
     running.taken = place.wrapping_add(1);
     if place >= running.trees.len() {
         return Err(Stop::OtherParts);
     }
     let reply = add(&mut running.rows, &running.trees[place])?;
-    if let Reply::Root(number) = reply {
+    if let PlainReply::Root(number) = reply {
         let _ = pin(&mut running.rows, WHO, number)?;
     }
     Ok(reply)
 }
 
 /// Finds the next tree.
-fn find_next(running: &mut Running) -> Result<Reply, Stop> {
+fn find_next(running: &mut Running) -> Result<PlainReply, Stop> {
     let place = running.taken;
     running.taken = place.wrapping_add(1);
     if place >= running.trees.len() {
@@ -106,7 +106,7 @@ fn push_shown(rows: &Rows, names: &Names, number: u128, into: &mut Vec<u8>) -> R
 }
 
 /// What a call on a number answers.
-fn called_with_number(running: &mut Running, call: &str) -> Result<Reply, Stop> {
+fn called_with_number(running: &mut Running, call: &str) -> Result<PlainReply, Stop> {
     if let Some(number) = number_after(call, "drop") {
         return Ok(unpin(&mut running.rows, WHO, number));
     }
@@ -117,7 +117,7 @@ fn called_with_number(running: &mut Running, call: &str) -> Result<Reply, Stop> 
 }
 
 /// What a call answers.
-fn called(running: &mut Running, call: &str) -> Result<Reply, Stop> {
+fn called(running: &mut Running, call: &str) -> Result<PlainReply, Stop> {
     match call {
         "add" => add_next(running),
         "find" => find_next(running),

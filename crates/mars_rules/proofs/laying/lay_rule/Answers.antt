@@ -11,8 +11,8 @@ use Rattle.mars_rules.proofs.TermFacts.{label-Name}
 use Rattle.mars_rules.proofs.LaidRules.{rule-laid}
 use Rattle.mars_rules.proofs.laying.lay_rule.Goals as goal
 
-pub lay_term-requires-clause-parts : goal.lay_term-requires-clause-parts
-lay_term-requires-clause-parts c = head-parts c.args.rule.now c.requires
+pub lay_head-requires-clause-parts : goal.lay_head-requires-clause-parts
+lay_head-requires-clause-parts c = head-parts c.args.rule.now c.requires
 
 pub lay_goals-requires-clause-parts : goal.lay_goals-requires-clause-parts
 lay_goals-requires-clause-parts c = subst (λ gs. All (IsRulePart c.args.rule.now.vars) (flat_map parts_of_goal gs)) (sym c.as_slice.ensures) (body-parts c.args.rule.now c.requires)
@@ -21,6 +21,6 @@ pub returns : goal.returns
 returns c =
     let head = c.requires.head in
     let laid =
-    rule-laid c.args.rule.now (label.Name head.0 (length head.1)) c.in_ok-nodes.nodes c.lay_term.new.nodes c.lay_goals.new.nodes c.in_ok-head.head c.in_ok-goals.goals.items c.as_slice.result.now
+    rule-laid c.args.rule.now (label.Name head.0 (length head.1)) c.in_ok-nodes.nodes c.lay_head.new.nodes c.lay_goals.new.nodes c.in_ok-head.head c.in_ok-goals.goals.items c.as_slice.result.now
     (ap label_of_term head.2 ∙ label-Name head.0 head.1) (ap length c.in_ok-nodes.ensures ∙ length-replicate c.args.rule.now.vars free_leaf) c.in_ok-head.ensures c.in_ok-goals.ensures c.as_slice.ensures in
     record { template = laid.0; vars = refl; head = laid.1; goals = laid.2 }

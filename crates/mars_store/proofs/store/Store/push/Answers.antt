@@ -1,5 +1,4 @@
 use Rattle.std.proofs.Common.{◌∙◌, ◌++◌, ◌∷◌, [], ℕ, List, ap, length}
-use Rattle.mars_base.proofs.ListFacts.{map-itself}
 use Rattle.mars_tree.specs.Graph.{Node, IsNode}
 use Rattle.mars_store.proofs.Stored.{pushed}
 use Rattle.mars_store.proofs.store.Store.push.Goals as goal
@@ -9,6 +8,6 @@ invariant_of-self-2 c =
     let node : Node = record { label = c.args.label; kids = c.args.kids.now } in
     let is : IsNode (length c.args.self.now.nodes) node = record { kids = c.requires.arity; in_range = c.requires.inside } in
     (pushed c.self.inside.nodes _ c.self.inside.links.items _ c.self.inside.trail.items c.args.self.now node c.self.view_is c.self.invariant is
-    (c.in_ok-add_node.ensures.ok ∙ ap (λ (ks : List ℕ). let m : Node = record { label = c.args.label; kids = ks } in c.self.inside.nodes ++ m ∷ []) (map-itself c.args.kids.now))
+    c.in_ok-push.ensures.ok
     (c.push_reserved.ensures.items ∙ ap (λ (xs : List ℕ). xs ++ c.len-node.result ∷ []) c.in_ok-reserve.ensures.items
     ∙ ap (λ n. c.self.inside.links.items ++ n ∷ []) (c.len-node.ensures ∙ c.self.inside.links.ok.0))).0

@@ -8,8 +8,8 @@ loop-self-preserved c =
     let step = undo-step _ _ _ c.pop.new.self.items c.in-Some.var c.in-Some.field-0-1 c.args.mark.bound c.loop-self.invariant.stored c.in-Some.ensures.items (omega (arith, c.in-Some.ensures.len)) in
     record { stored = step.0; nodes = c.loop-self.invariant.nodes; front = step.1 ∙ c.loop-self.invariant.front; more = omega (arith, c.in-Some.ensures.len) }
 
-pub truncate-requires : goal.truncate-requires
-truncate-requires c =
+pub truncate-requires-clause-graph : goal.truncate-requires-clause-graph
+truncate-requires-clause-graph c =
     front-graph (record { nodes = c.loop-self.self-inside.nodes; bound = c.loop-self.self-inside.trail.items }) c.args.mark.nodes c.loop-self.invariant.stored.system
     (rw (c.loop-self.invariant.nodes ∙ ap (λ (s : System). s.nodes) c.self.view_is) c.requires.nodes)
 

@@ -1,5 +1,5 @@
 //! The calls of a table on a plain list of rows.
-use crate::plain::{Row, find_all, kids_of, left_of, place_of};
+use crate::plain::{PlainRow, find_all, kids_of, left_of, place_of};
 use mars_base::NoMemory;
 use mars_canon::Tree;
 use mars_tree::Graph;
@@ -8,7 +8,7 @@ use std::alloc::Global;
 
 /// What a call answers.
 #[derive(Clone, Copy, Debug, PartialEq, Eq)]
-pub enum Reply {
+pub enum PlainReply {
     /// The number of the root of a tree that was added.
     Root(u128),
     /// How many rows a sweep would leave, and how many nodes would then have none.
@@ -29,8 +29,8 @@ pub enum Reply {
 
 /// A table: its rows, its pins, the next number and the limit.
 #[derive(Drop)]
-pub struct Listed {
-    pub rows: Vec<Row>,
+pub struct PlainTable {
+    rows: Vec<PlainRow>,
     pub pins: Vec<(u32, u128)>,
     next: u128,
     cap: u64,
@@ -73,12 +73,17 @@ fn number_at(numbers: &[u128], place: usize) -> u128 {
 }
 
 /// A node as a row.
-fn row_of(alloc: Global, graph: &Graph, node: usize, numbers: &[u128]) -> Result<Row, NoMemory> {
+fn row_of(
+    alloc: Global,
+    graph: &Graph,
+    node: usize,
+    numbers: &[u128],
+) -> Result<PlainRow, NoMemory> {
     let mut kids = Vec::new(alloc);
     for kid in kids_at(graph, node) {
         kids.push(number_at(numbers, *kid))?;
     }
-    Ok(Row {
+    Ok(PlainRow {
         number: number_at(numbers, node),
         label: label_at(graph, node),
         kids,
@@ -86,7 +91,7 @@ fn row_of(alloc: Global, graph: &Graph, node: usize, numbers: &[u128]) -> Result
 }
 
 /// Adds a node for a row.
-fn add_row(graph: &mut Graph, row: &Row) -> Result<(), NoMemory> {
+fn add_row(graph: &mut Graph, row: &PlainRow) -> Result<(), NoMemory> {
     match row.label {
         Some(label) => graph.add(label)?,
         None => graph.add_free()?,
@@ -95,14 +100,14 @@ fn add_row(graph: &mut Graph, row: &Row) -> Result<(), NoMemory> {
 }
 
 /// Gives a node the kids of its row.
-fn link_row(graph: &mut Graph, rows: &[Row], node: usize) {
+fn link_row(graph: &mut Graph, rows: &[PlainRow], node: usize) {
     for (place, kid) in kids_of(rows, node).iter().enumerate() {
         set_kid_at(graph, node, place, place_of(rows, *kid));
     }
 }
 
 /// The rows as the nodes of a graph.
-fn graph_of(alloc: Global, rows: &[Row]) -> Result<Graph, NoMemory> {
+fn graph_of(alloc: Global, rows: &[PlainRow]) -> Result<Graph, NoMemory> {
     let mut graph = Graph::new(alloc);
     for row in rows {
         add_row(&mut graph, row)?;
@@ -113,10 +118,10 @@ fn graph_of(alloc: Global, rows: &[Row]) -> Result<Graph, NoMemory> {
     Ok(graph)
 }
 
-impl Listed {
+impl PlainTable {
     /// No rows and no pins, and at most `cap` rows later.
-    pub fn new(alloc: Global, cap: u64) -> Listed {
-        Listed {
+    pub fn new(alloc: Global, cap: u64) -> PlainTable {
+        PlainTable {
             rows: Vec::new(alloc),
             pins: Vec::new(alloc),
             next: 0,
@@ -126,7 +131,7 @@ impl Listed {
     }
 
     /// Adds a tree by its canonical graph.
-    pub fn add(&mut self, graph: &Graph) -> Result<Reply, NoMemory> {
+    pub fn add(&mut self, graph: &Graph) -> Result<PlainReply, NoMemory> {
         let found = find_all(self.alloc, &self.rows, graph)?;
         if self.is_within(self.rows.len(), &found) {
             return self.grow(graph, &found);
@@ -135,11 +140,11 @@ impl Listed {
     }
 
     /// Adds a tree that doesn't fit to what a sweep would leave.
-    fn add_to_left(&mut self, graph: &Graph) -> Result<Reply, NoMemory> {
+    fn add_to_left(&mut self, graph: &Graph) -> Result<PlainReply, NoMemory> {
         let left = left_of(self.alloc, &self.rows, &self.pins)?;
         let found = find_all(self.alloc, &left, graph)?;
         if !self.is_within(left.len(), &found) {
-            return Ok(Reply::Full {
+            return Ok(PlainReply::Full {
                 rows: left.len() as u64,
                 fresh: fresh_in(&found),
             });
@@ -154,7 +159,7 @@ impl Listed {
     }
 
     /// The nodes that have no row become rows with the next numbers.
-    fn grow(&mut self, graph: &Graph, found: &[Option<u128>]) -> Result<Reply, NoMemory> {
+    fn grow(&mut self, graph: &Graph, found: &[Option<u128>]) -> Result<PlainReply, NoMemory> {
         let numbers = numbers_of(self.alloc, found, self.next)?;
         for node in 0..found.len() {
             if found[node].is_none() {
@@ -162,25 +167,25 @@ impl Listed {
             }
         }
         self.next = self.next.wrapping_add(u128::from(fresh_in(found)));
-        Ok(Reply::Root(number_at(&numbers, 0)))
+        Ok(PlainReply::Root(number_at(&numbers, 0)))
     }
 
     /// The number of the row that is a node's tree.
-    pub fn find(&self, graph: &Graph, node: usize) -> Result<Reply, NoMemory> {
+    pub fn find(&self, graph: &Graph, node: usize) -> Result<PlainReply, NoMemory> {
         let found = find_all(self.alloc, &self.rows, graph)?;
         match found.get(node) {
-            Some(number) => Ok(Reply::Found(*number)),
-            None => Ok(Reply::Found(None)),
+            Some(number) => Ok(PlainReply::Found(*number)),
+            None => Ok(PlainReply::Found(None)),
         }
     }
 
     /// One more pin, where the row is there.
-    pub fn pin(&mut self, who: u32, number: u128) -> Result<Reply, NoMemory> {
+    pub fn pin(&mut self, who: u32, number: u128) -> Result<PlainReply, NoMemory> {
         let has = self.has(number);
         if has {
             self.pins.push((who, number))?;
         }
-        Ok(Reply::Pinned(has))
+        Ok(PlainReply::Pinned(has))
     }
 
     /// Whether there is a row of this number.
@@ -189,22 +194,22 @@ impl Listed {
     }
 
     /// One pin less, where there is one.
-    pub fn unpin(&mut self, who: u32, number: u128) -> Reply {
+    pub fn unpin(&mut self, who: u32, number: u128) -> PlainReply {
         for place in 0..self.pins.len() {
             if self.pins[place] == (who, number) {
                 self.pins.remove(place);
-                return Reply::Unpinned(true);
+                return PlainReply::Unpinned(true);
             }
         }
-        Reply::Unpinned(false)
+        PlainReply::Unpinned(false)
     }
 
     /// The rows that no walk from a pin meets go.
-    pub fn sweep(&mut self) -> Result<Reply, NoMemory> {
+    pub fn sweep(&mut self) -> Result<PlainReply, NoMemory> {
         let left = left_of(self.alloc, &self.rows, &self.pins)?;
         let gone = self.rows.len().saturating_sub(left.len());
         self.rows = left;
-        Ok(Reply::Swept(gone as u64))
+        Ok(PlainReply::Swept(gone as u64))
     }
 
     /// The tree of a row, where it is there.
@@ -219,7 +224,7 @@ impl Listed {
     }
 
     /// How many rows and pins there are, and the next number.
-    pub fn counts(&self) -> Reply {
-        Reply::Counted(self.rows.len() as u64, self.pins.len() as u64, self.next)
+    pub fn counts(&self) -> PlainReply {
+        PlainReply::Counted(self.rows.len() as u64, self.pins.len() as u64, self.next)
     }
 }

@@ -1,4 +1,5 @@
-//! A table as a plain list of rows, by the words of its definition: each answer is found by going through the whole list.
+//! A plain list of rows, by the words of its definition: what is found, and what a walk from a pin meets, is told by going through
+//! the whole list.
 use mars_base::NoMemory;
 use mars_tree::{Graph, Label};
 use rows::{kids_at, label_at};
@@ -6,14 +7,14 @@ use std::alloc::Global;
 
 /// A row: its number, its label, and the numbers of its kids.
 #[derive(Drop)]
-pub struct Row {
-    pub number: u128,
-    pub label: Option<Label>,
-    pub kids: Vec<u128>,
+pub(crate) struct PlainRow {
+    pub(crate) number: u128,
+    pub(crate) label: Option<Label>,
+    pub(crate) kids: Vec<u128>,
 }
 
 /// The place of a number, past all rows where none has it.
-pub fn place_of(rows: &[Row], number: u128) -> usize {
+pub(crate) fn place_of(rows: &[PlainRow], number: u128) -> usize {
     for place in 0..rows.len() {
         if rows[place].number == number {
             return place;
@@ -23,7 +24,7 @@ pub fn place_of(rows: &[Row], number: u128) -> usize {
 }
 
 /// The kids of the row at a place, none where there is no row.
-pub fn kids_of(rows: &[Row], place: usize) -> &[u128] {
+pub(crate) fn kids_of(rows: &[PlainRow], place: usize) -> &[u128] {
     if place < rows.len() {
         &rows[place].kids
     } else {
@@ -32,7 +33,7 @@ pub fn kids_of(rows: &[Row], place: usize) -> &[u128] {
 }
 
 /// The label of the row at a place.
-fn label_of(rows: &[Row], place: usize) -> Option<Label> {
+fn label_of(rows: &[PlainRow], place: usize) -> Option<Label> {
     if place < rows.len() {
         rows[place].label
     } else {
@@ -49,7 +50,13 @@ fn are_alike(alike: &[bool], graph: &Graph, row: usize, node: usize) -> bool {
 }
 
 /// Whether the kids of a row and of a node show the same so far.
-fn are_kids_alike(rows: &[Row], graph: &Graph, alike: &[bool], row: usize, node: usize) -> bool {
+fn are_kids_alike(
+    rows: &[PlainRow],
+    graph: &Graph,
+    alike: &[bool],
+    row: usize,
+    node: usize,
+) -> bool {
     let (kids, others) = (kids_of(rows, row), kids_at(graph, node));
     for place in 0..kids.len() {
         let other = match others.get(place) {
@@ -65,7 +72,7 @@ fn are_kids_alike(rows: &[Row], graph: &Graph, alike: &[bool], row: usize, node:
 
 /// Puts last whether a row and each node have one label.
 fn push_labels(
-    rows: &[Row],
+    rows: &[PlainRow],
     graph: &Graph,
     row: usize,
     alike: &mut Vec<bool>,
@@ -77,7 +84,7 @@ fn push_labels(
 }
 
 /// Whether each row and each node have one label.
-fn by_labels(alloc: Global, rows: &[Row], graph: &Graph) -> Result<Vec<bool>, NoMemory> {
+fn by_labels(alloc: Global, rows: &[PlainRow], graph: &Graph) -> Result<Vec<bool>, NoMemory> {
     let mut alike = Vec::new(alloc);
     for row in 0..rows.len() {
         push_labels(rows, graph, row, &mut alike)?;
@@ -87,7 +94,7 @@ fn by_labels(alloc: Global, rows: &[Row], graph: &Graph) -> Result<Vec<bool>, No
 
 /// Puts last whether a row and each node show the same along paths of one kid more.
 fn push_longer(
-    rows: &[Row],
+    rows: &[PlainRow],
     graph: &Graph,
     alike: &[bool],
     row: usize,
@@ -103,7 +110,7 @@ fn push_longer(
 /// Whether each row and each node show the same along paths of one kid more.
 fn longer_of(
     alloc: Global,
-    rows: &[Row],
+    rows: &[PlainRow],
     graph: &Graph,
     alike: &[bool],
 ) -> Result<Vec<bool>, NoMemory> {
@@ -115,7 +122,7 @@ fn longer_of(
 }
 
 /// Whether each row and each node show the same along all paths: along longer and longer ones, until nothing changes.
-fn same_trees(alloc: Global, rows: &[Row], graph: &Graph) -> Result<Vec<bool>, NoMemory> {
+fn same_trees(alloc: Global, rows: &[PlainRow], graph: &Graph) -> Result<Vec<bool>, NoMemory> {
     let mut alike = by_labels(alloc, rows, graph)?;
     for _ in 0..alike.len() {
         let longer = longer_of(alloc, rows, graph, &alike)?;
@@ -128,7 +135,7 @@ fn same_trees(alloc: Global, rows: &[Row], graph: &Graph) -> Result<Vec<bool>, N
 }
 
 /// The number of the first row that is the tree of a node.
-fn number_of(rows: &[Row], graph: &Graph, alike: &[bool], node: usize) -> Option<u128> {
+fn number_of(rows: &[PlainRow], graph: &Graph, alike: &[bool], node: usize) -> Option<u128> {
     for row in 0..rows.len() {
         if are_alike(alike, graph, row, node) {
             return Some(rows[row].number);
@@ -138,7 +145,11 @@ fn number_of(rows: &[Row], graph: &Graph, alike: &[bool], node: usize) -> Option
 }
 
 /// The number of the row that is the tree of each node, none where no row is.
-pub fn find_all(alloc: Global, rows: &[Row], graph: &Graph) -> Result<Vec<Option<u128>>, NoMemory> {
+pub(crate) fn find_all(
+    alloc: Global,
+    rows: &[PlainRow],
+    graph: &Graph,
+) -> Result<Vec<Option<u128>>, NoMemory> {
     let alike = same_trees(alloc, rows, graph)?;
     let mut found = Vec::new(alloc);
     for node in 0..graph.len() {
@@ -158,7 +169,7 @@ fn is_pinned(pins: &[(u32, u128)], number: u128) -> bool {
 }
 
 /// Whether a row that is met has the number among its kids.
-fn has_met_parent(rows: &[Row], met: &[bool], number: u128) -> bool {
+fn has_met_parent(rows: &[PlainRow], met: &[bool], number: u128) -> bool {
     for place in 0..rows.len() {
         if met.get(place) == Some(&true) && kids_of(rows, place).contains(&number) {
             return true;
@@ -168,7 +179,11 @@ fn has_met_parent(rows: &[Row], met: &[bool], number: u128) -> bool {
 }
 
 /// Whether each row is pinned.
-fn pinned_rows(alloc: Global, rows: &[Row], pins: &[(u32, u128)]) -> Result<Vec<bool>, NoMemory> {
+fn pinned_rows(
+    alloc: Global,
+    rows: &[PlainRow],
+    pins: &[(u32, u128)],
+) -> Result<Vec<bool>, NoMemory> {
     let mut met = Vec::new(alloc);
     for row in rows {
         met.push(is_pinned(pins, row.number))?;
@@ -177,7 +192,7 @@ fn pinned_rows(alloc: Global, rows: &[Row], pins: &[(u32, u128)]) -> Result<Vec<
 }
 
 /// Whether each row is met by a walk of one kid more.
-fn met_longer(alloc: Global, rows: &[Row], met: &[bool]) -> Result<Vec<bool>, NoMemory> {
+fn met_longer(alloc: Global, rows: &[PlainRow], met: &[bool]) -> Result<Vec<bool>, NoMemory> {
     let mut longer = Vec::new(alloc);
     for place in 0..rows.len() {
         let is_met = met.get(place) == Some(&true);
@@ -187,7 +202,7 @@ fn met_longer(alloc: Global, rows: &[Row], met: &[bool]) -> Result<Vec<bool>, No
 }
 
 /// Whether a walk from a pin meets each row: a longer and longer one, until nothing changes.
-fn met_rows(alloc: Global, rows: &[Row], pins: &[(u32, u128)]) -> Result<Vec<bool>, NoMemory> {
+fn met_rows(alloc: Global, rows: &[PlainRow], pins: &[(u32, u128)]) -> Result<Vec<bool>, NoMemory> {
     let mut met = pinned_rows(alloc, rows, pins)?;
     for _ in 0..rows.len() {
         let longer = met_longer(alloc, rows, &met)?;
@@ -200,8 +215,8 @@ fn met_rows(alloc: Global, rows: &[Row], pins: &[(u32, u128)]) -> Result<Vec<boo
 }
 
 /// The same row once more.
-fn copy_row(alloc: Global, row: &Row) -> Result<Row, NoMemory> {
-    Ok(Row {
+fn copy_row(alloc: Global, row: &PlainRow) -> Result<PlainRow, NoMemory> {
+    Ok(PlainRow {
         number: row.number,
         label: row.label,
         kids: Vec::from_slice(alloc, &row.kids)?,
@@ -209,7 +224,7 @@ fn copy_row(alloc: Global, row: &Row) -> Result<Row, NoMemory> {
 }
 
 /// Those of the rows that are met.
-fn copy_met(alloc: Global, rows: &[Row], met: &[bool]) -> Result<Vec<Row>, NoMemory> {
+fn copy_met(alloc: Global, rows: &[PlainRow], met: &[bool]) -> Result<Vec<PlainRow>, NoMemory> {
     let mut left = Vec::new(alloc);
     for place in 0..rows.len() {
         if met.get(place) == Some(&true) {
@@ -220,7 +235,11 @@ fn copy_met(alloc: Global, rows: &[Row], met: &[bool]) -> Result<Vec<Row>, NoMem
 }
 
 /// The rows that a walk from a pin meets.
-pub fn left_of(alloc: Global, rows: &[Row], pins: &[(u32, u128)]) -> Result<Vec<Row>, NoMemory> {
+pub(crate) fn left_of(
+    alloc: Global,
+    rows: &[PlainRow],
+    pins: &[(u32, u128)],
+) -> Result<Vec<PlainRow>, NoMemory> {
     let met = met_rows(alloc, rows, pins)?;
     copy_met(alloc, rows, &met)
 }
