@@ -3,8 +3,8 @@ use Rattle.std.proofs.Common.{◌≡◌, ℕ, zero, suc, ◌+◌, ◌-◌, ◌<�
 use Rattle.std.proofs.lemmas.List.{take-append-le, take_all, get_or_at}
 use Rattle.std.proofs.lemmas.Option.{slice_get-get_or, same_Some}
 use Rattle.mars_base.proofs.ListFacts.{get-push}
-use Rattle.mars_goals.specs.declared.arena.Pending.{Pending}
-use Rattle.mars_goals.specs.declared.arena.Cell.{Cell}
+use Rattle.mars_goals.specs.declared.cells.Pending.{Pending}
+use Rattle.mars_goals.specs.declared.cells.Cell.{Cell}
 use Rattle.mars_goals.specs.GoalLists.{list_at}
 use Rattle.mars_goals.specs.CellsInside.{lists_of_cells, AreCells}
 use Rattle.mars_goals.proofs.CallerLemmas.{list_left}

@@ -1,6 +1,6 @@
 -- Goal lists under numbers, and the first goal of one.
 use Rattle.std.specs.Prelude.{◌≡◌, ℕ, ◌<◌, List, [], ◌∷◌, length, slice_index_or, Option, Some, None}
-use Rattle.mars_goals.specs.declared.arena.Pending.{Pending}
+use Rattle.mars_goals.specs.declared.cells.Pending.{Pending}
 
 -- the goal list of a number
 abbrev pub list_at : List (List Pending) → ℕ → List Pending

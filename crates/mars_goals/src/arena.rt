@@ -2,39 +2,23 @@
 ghost use Rattle.std.specs.Prelude.{◌≡◌, ◌<◌, ◌≤◌, ◌++◌, ◌∷◌, [], length, take, IfOk, OnOk, OnErr};
 ghost use Rattle.mars_goals.specs.GoalLists.{list_at, TellsFirst};
 
+use crate::cells::{Cells, Pending};
 use crate::goal_list::GoalList;
 use mars_base::NoMemory;
-use mars_store::NodeId;
 use std::alloc::Global;
 use std::marker::Model;
-
-/// A goal that is still to be done.
-#[derive(Clone, Copy, Debug, PartialEq, Eq)]
-pub enum Pending {
-    /// A call of a node of the store.
-    Call(NodeId),
-    /// A cut, which keeps so many of the choice points, the earliest.
-    Cut(usize),
-}
-
-/// A goal, and the number of the list after it.
-#[derive(Clone, Copy)]
-struct Cell {
-    goal: Pending,
-    rest: usize,
-}
 
 /// Goal lists under numbers, each the empty one, or a goal before an earlier list. No list is ever copied or changed.
 /// At `NoMemory` the lists are as before.
 #[derive(Drop)]
 pub struct GoalArena {
     /// The first cell is that of list 1.
-    cells: Vec<Cell>,
+    cells: Cells,
 }
 
 impl Model for GoalArena {
     ghost use Rattle.std.specs.Prelude.{List, [], ◌∷◌};
-    ghost use Rattle.mars_goals.specs.declared.arena.Pending.{Pending};
+    ghost use Rattle.mars_goals.specs.declared.cells.Pending.{Pending};
 
     ghost Value = { List (List Pending) };
 
@@ -51,11 +35,12 @@ impl GoalArena {
         ensures { result ≡ [] ∷ [] }
     {
         GoalArena {
-            cells: Vec::new(alloc),
+            cells: Cells::new(alloc),
         }
     }
 
     /// How many lists there are: the mark of the present state.
+    #[inline]
     pub fn len(&self) -> usize
         ensures len { result ≡ length self.now }
         ensures some { 0 < result }
@@ -64,6 +49,7 @@ impl GoalArena {
     }
 
     /// The empty list.
+    #[inline]
     pub fn empty(&self) -> GoalList
         ensures inside { result < length self.now }
         ensures list { list_at self.now result ≡ [] }
@@ -73,6 +59,7 @@ impl GoalArena {
     }
 
     /// The list of a goal before a list. Constant.
+    #[inline]
     pub fn push(&mut self, goal: Pending, rest: GoalList) -> Result<GoalList, NoMemory>
         requires { rest < length self.old }
         ensures list { IfOk result (λ list. list ≡ length self.old) }
@@ -80,11 +67,12 @@ impl GoalArena {
         ensures err { OnErr result (self.new ≡ self.old) }
     {
         let list = self.len();
-        self.cells.push(Cell { goal, rest: rest.0 })?;
+        self.cells.push(goal, rest.0)?;
         Ok(GoalList(list))
     }
 
     /// The first goal of a list, and the list after it; `None` exactly for an empty list. Constant.
+    #[inline]
     pub fn first(&self, list: GoalList) -> Option<(Pending, GoalList)>
         requires { list < length self.now }
         ensures { TellsFirst self.now list result }
@@ -93,11 +81,12 @@ impl GoalArena {
         if list.0 == 0 {
             return None;
         }
-        let cell = self.cells[list.0 - 1];
+        let cell = self.cells.get(list.0 - 1);
         Some((cell.goal, GoalList(cell.rest)))
     }
 
     /// Keeps the first lists, so many as are asked for.
+    #[inline]
     pub fn truncate(&mut self, len: usize)
         requires some { 0 < len }
         requires within { len ≤ length self.old }

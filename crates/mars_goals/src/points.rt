@@ -34,6 +34,7 @@ impl ChoicePoints {
     }
 
     /// How many there are. A cut that keeps so many takes none away.
+    #[inline]
     pub fn len(&self) -> usize
         ensures { result ≡ length self.now }
     {
@@ -41,6 +42,7 @@ impl ChoicePoints {
     }
 
     /// A new latest one. Out of memory leaves all as before.
+    #[inline]
     pub fn push(&mut self, choice: Choice) -> Result<(), NoMemory>
         ensures ok { OnOk result (self.new ≡ choice ∷ self.old) }
         ensures err { OnErr result (self.new ≡ self.old) }
@@ -50,6 +52,7 @@ impl ChoicePoints {
     }
 
     /// The latest one, `None` exactly where there is none.
+    #[inline]
     pub fn top(&self) -> Option<Choice>
         ensures { MatchOption result (self.now ≡ []) (λ choice. self.now ≡ choice ∷ drop 1 self.now) }
     {
@@ -57,6 +60,7 @@ impl ChoicePoints {
     }
 
     /// Takes the latest one, `None` exactly where there is none.
+    #[inline]
     pub fn pop(&mut self) -> Option<Choice>
         ensures { MatchOption result ((self.old ≡ []) × (self.new ≡ [])) (λ choice. self.old ≡ choice ∷ self.new) }
     {
@@ -64,6 +68,7 @@ impl ChoicePoints {
     }
 
     /// Leaves the rules before a place out at the latest one: they were tried. Where there is none, nothing is done.
+    #[inline]
     pub fn try_from(&mut self, rule: usize)
         ensures { self.new ≡ tried_to rule self.old }
     {
@@ -78,6 +83,7 @@ impl ChoicePoints {
     }
 
     /// Keeps the earliest ones, so many as are asked for.
+    #[inline]
     pub fn cut(&mut self, kept: usize)
         ensures { self.new ≡ drop (length self.old - kept) self.old }
     {

@@ -3,4 +3,4 @@ use Rattle.mars_goals.proofs.Lists.{count}
 use Rattle.mars_goals.proofs.arena.GoalArena.len.Goals as goal
 
 pub returns-clause-len : goal.returns-clause-len
-returns-clause-len c = let size = count c.self.inside.cells.items c.args.self.now c.self.view_is in omega (arith, size, c.len.ensures, c.self.inside.cells.ok.0)
+returns-clause-len c = let size = count c.self.inside.cells.items c.args.self.now c.self.view_is in omega (arith, size, c.len.ensures.len)
