@@ -43,7 +43,7 @@ use Rattle.mars_bridge.proofs.Growing.{denotes_more}
 use Rattle.mars_bridge.proofs.Variables.{within_value, cut-same, cut_solves, last_trees, last_valid, last_value, rule_value, represents_variables, denotes_still, still-value, new-value, earlier-hold}
 use Rattle.mars_bridge.proofs.Copied.{over-parts}
 
-split-last : {X : Type 0} (P : X → Type 0) (xs : List X) (x : X) → All P (xs ++ x ∷ []) → All P xs × P x
+pub split-last : {X : Type 0} (P : X → Type 0) (xs : List X) (x : X) → All P (xs ++ x ∷ []) → All P xs × P x
 split-last P xs x h =
     let front = All-take P (length xs) (xs ++ x ∷ []) h in
     let same : take (length xs) (xs ++ x ∷ []) ≡ xs = take-append-le (length xs) xs (x ∷ []) (omega arith) ∙ take_all (length xs) xs (omega arith) in

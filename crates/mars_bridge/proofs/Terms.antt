@@ -12,7 +12,7 @@ use Rattle.mars_rules.specs.TermTrees.{label_of_term, arguments_of, own_tree, tr
 use Rattle.mars_bridge.specs.TermLaws.{IsAlike}
 use Rattle.mars_rules.proofs.RuleParts.{own-part, name-parts, tuple-parts, dot-parts, item-parts, all-before, all-after}
 
-same-term : (a b : Term) → out-Term a ≡ out-Term b → a ≡ b
+pub same-term : (a b : Term) → out-Term a ≡ out-Term b → a ≡ b
 same-term a b e = sym (roll-out-Term a) ∙ ap roll-Term e ∙ roll-out-Term b
 
 module _ (vars others kept most : Trees) where

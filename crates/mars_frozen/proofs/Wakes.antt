@@ -5,12 +5,13 @@ use Rattle.std.proofs.lemmas.List.Elements.{All-nil, All-head, All-tail, All-get
 use Rattle.mars_store.specs.System.{System, IsSystem}
 use Rattle.mars_store.specs.Laws.{IsKnown}
 use Rattle.mars_store.proofs.CallerLemmas.{grows-refl, grows-trans, free_unforced}
-use Rattle.mars_watch.specs.Lined.{AreAscending, without}
-use Rattle.mars_frozen.specs.Freezing.{FrozenPairs, AreWoken, CanWake, HasBoth, IsFiled, IsLaterLine}
+use Rattle.mars_watch.specs.Lined.{AreAscending, without, IsLaterLine}
+use Rattle.mars_watch.specs.Gathered.{pair_at}
+use Rattle.mars_frozen.specs.Freezing.{FrozenPairs, AreWoken, CanWake, HasBoth, IsFiled}
 use Rattle.mars_frozen.specs.Freezing.AreWoken.{none, wakes, stays}
 use Rattle.mars_frozen.specs.FreezingLaws.{FrozenStarts, FrozenAdds, FrozenGrows, WokenOnce}
-use Rattle.mars_frozen.specs.FrozenInside.{IsKnownPlace, AreFound, goals_of, pair_at}
-use Rattle.mars_frozen.proofs.Lists.{each-length, each-push, each-weaker, each-without, ascending-size, ascending-push, ascending-wider, without-ascends, without-all, without-here, without-later, drop-first, drop-rest, contains-none, contains-cases, not-before}
+use Rattle.mars_frozen.specs.FrozenInside.{IsKnownPlace, AreFound, goals_of}
+use Rattle.mars_watch.proofs.CallerLemmas.{each-length, each-push, each-weaker, each-without, ascending-size, ascending-push, ascending-wider, without-ascends, without-all, without-here, without-later, drop-first, drop-rest, contains-none, contains-cases, not-before}
 
 pub frozen_starts : FrozenStarts
 frozen_starts system = record {

@@ -1,9 +1,10 @@
 -- Pairs of a node and a goal that waits until the node's root is known.
-use Rattle.std.specs.Prelude.{◌≡◌, ◌⊎◌, ℕ, ◌<◌, ◌≤◌, List, [], ◌∷◌, ◌++◌, length, take, All, Contains, None}
+use Rattle.std.specs.Prelude.{◌≡◌, ◌⊎◌, ℕ, ◌<◌, ◌≤◌, List, [], ◌∷◌, length, take, All, Contains, None}
 use Rattle.mars_tree.specs.Graph.{label_of}
 use Rattle.mars_store.specs.System.{System, Grows, resolve}
 use Rattle.mars_store.specs.Laws.{IsKnown}
-use Rattle.mars_watch.specs.Lined.{Lined, AreAscending, line_undone}
+use Rattle.mars_watch.specs.Lined.{Lined, AreAscending, line_undone, line_with, IsLaterLine}
+use Rattle.mars_watch.specs.Gathered.{AreEach}
 use Rattle.mars_frozen.specs.declared.mark.Mark.{Mark}
 
 -- the pairs and the number of each, which pair waits at which variable, from which number on pairs have no such variable
@@ -29,10 +30,6 @@ no_frozen = record {
   seen = 0;
 }
 
--- a list with one item more at its end
-abbrev pub line_with : {X : Type 0} → Lined X → X → Lined X
-line_with line x = record { now = line.now ++ x ∷ []; past = line.now ∷ line.past }
-
 -- one pair more, whose number is how many changes were made before
 abbrev pub with_frozen : FrozenPairs → ℕ × ℕ → FrozenPairs
 with_frozen frozen pair = record frozen {
@@ -55,13 +52,6 @@ pub record IsFiled (watches : List (ℕ × ℕ)) (system : System) (number : ℕ
   pub inside : resolve system.bound pair.0 < length system.nodes
   pub free : label_of system.nodes (resolve system.bound pair.0) ≡ None
   pub there : Contains watches (resolve system.bound pair.0, number)
-
--- what holds of the entries of two lists, place by place
-abbrev pub AreEach : {X Y : Type 0} → (X → Y → Type 0) → List X → List Y → Type 0
-AreEach R [] [] = Unit {0}
-AreEach R [] (y ∷ ys) = ⊥
-AreEach R (x ∷ xs) [] = ⊥
-AreEach R (x ∷ xs) (y ∷ ys) = R x y × AreEach R xs ys
 
 -- each pair that was frozen before the last wake waits at its variable in the system of that wake
 pub record AreFiled (frozen : FrozenPairs) (system : System) : Type 0 where
@@ -96,11 +86,6 @@ pub record IsFrozenMark (frozen : FrozenPairs) (mark : Mark) : Type 0 where
   pub pairs : mark.changes ≤ length frozen.pairs.past
   pub numbers : mark.changes ≤ length frozen.numbers.past
   pub watches : mark.watches ≤ length frozen.watches
-
--- the later line, undone to the changes of the earlier one, is that one
-pub record IsLaterLine {X : Type 0} (old new : Lined X) : Type 0 where
-  pub more : length old.past ≤ length new.past
-  pub undone : line_undone new (length old.past) ≡ old
 
 -- changes and watches were added to those that there were
 pub record IsLaterFrozen (old new : FrozenPairs) : Type 0 where

@@ -1,18 +1,11 @@
 -- Inside: which pairs a wake looks at, and what it finds.
-use Rattle.std.specs.Prelude.{◌≡◌, ◌⊎◌, ℕ, ◌<◌, List, [], ◌∷◌, ◌++◌, length, slice_index, slice_index_or, map, All, Contains}
+use Rattle.std.specs.Prelude.{◌≡◌, ◌⊎◌, ℕ, ◌<◌, List, [], ◌∷◌, ◌++◌, length, slice_index, map, All, Contains}
 use Rattle.mars_store.specs.System.{System}
 use Rattle.mars_store.specs.Laws.{IsKnown}
 use Rattle.mars_watch.specs.Watched.{CutAt}
 use Rattle.mars_watch.specs.Lined.{AreAscending}
-use Rattle.mars_frozen.specs.Freezing.{FrozenPairs, IsFiled, AreEach}
-
--- an entry of a list of pairs
-abbrev pub pair_at : List (ℕ × ℕ) → ℕ → ℕ × ℕ
-pair_at pairs place = slice_index_or pairs place (0, 0)
-
--- the numbers of all pairs that wait at a variable bound by one of these equations
-abbrev pub AreGathered : List (ℕ × ℕ) → List (ℕ × ℕ) → List ℕ → Type 0
-AreGathered watches bound touched = (place number : ℕ) → place < length bound → Contains watches ((pair_at bound place).0, number) → Contains touched number
+use Rattle.mars_watch.specs.Gathered.{AreEach, pair_at}
+use Rattle.mars_frozen.specs.Freezing.{FrozenPairs, IsFiled}
 
 -- a pair is looked at, or waits at its variable still
 abbrev pub AreAllTouched : FrozenPairs → System → List ℕ → Type 0
@@ -43,16 +36,6 @@ pub record IsPairSettled (system : System) (pairs : List (ℕ × ℕ)) (place nu
 pub record AreSettled (system : System) (pairs : List (ℕ × ℕ)) (numbers : List ℕ) (left : List ℕ) (watches : List (ℕ × ℕ)) (found : List ℕ) : Type 0 where
   pub known : All (IsKnownPlace system pairs) found
   pub settled : (place : ℕ) → place < length numbers → Contains left (slice_index numbers place) ⊎ IsPlaceSettled system pairs numbers watches found place
-
--- the same numbers, each once, in order
-pub record AreInOrder (size : ℕ) (found places : List ℕ) : Type 0 where
-  pub ascending : AreAscending 0 places size
-  pub from : (place : ℕ) → Contains places place → Contains found place
-  pub all : (place : ℕ) → Contains found place → Contains places place
-
--- each number is below those after it
-abbrev pub AreRising : List ℕ → Type 0
-AreRising numbers = (i j : ℕ) → i < j → j < length numbers → slice_index numbers i < slice_index numbers j
 
 -- the places of all pairs whose first part is known, in order; the others wait at their variables
 pub record AreFound (system : System) (pairs : List (ℕ × ℕ)) (numbers : List ℕ) (watches : List (ℕ × ℕ)) (places : List ℕ) : Type 0 where

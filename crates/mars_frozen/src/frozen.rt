@@ -1,15 +1,15 @@
 //! Goals that wait until a term is known: pairs, and for each the free variable at which its first part ends.
 ghost use Rattle.std.specs.Prelude.{◌≡◌, ℕ, length, OnOk, OnErr, IfOk};
-ghost use Rattle.mars_watch.specs.Lined.{AreAscending, without};
+ghost use Rattle.mars_watch.specs.Lined.{AreAscending, without, IsLaterLine};
 ghost use Rattle.mars_watch.specs.Watched.{CutAt};
-ghost use Rattle.mars_frozen.specs.Freezing.{FrozenPairs, no_frozen, with_frozen, waiting_pairs, AreWoken, CanWake, IsLaterFrozen, IsLaterLine, IsFrozenMark, frozen_mark, frozen_undone};
+ghost use Rattle.mars_frozen.specs.Freezing.{FrozenPairs, no_frozen, with_frozen, waiting_pairs, AreWoken, CanWake, IsLaterFrozen, IsFrozenMark, frozen_mark, frozen_undone};
 ghost use Rattle.mars_frozen.specs.FrozenInside.{AreAllTouched};
 
 use crate::mark::Mark;
-use crate::waking::{add_unfiled, gather_all, goals_at, known_places};
+use crate::waking::{add_unfiled, goals_at, known_places};
 use mars_base::NoMemory;
 use mars_store::{NodeId, Store};
-use mars_watch::{Line, Watchers};
+use mars_watch::{Line, Watchers, gather_bound};
 use std::alloc::Global;
 use std::marker::Model;
 
@@ -121,7 +121,7 @@ impl Frozen {
     {
         let _mark = store.mark();
         let mut touched = Vec::new(self.alloc);
-        gather_all(&self.watchers, store, self.seen, &mut touched)?;
+        gather_bound(&self.watchers, store, self.seen, &mut touched)?;
         add_unfiled(self.numbers.now(), self.filed, &mut touched)?;
         Ok(touched)
     }

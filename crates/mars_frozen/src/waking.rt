@@ -2,29 +2,14 @@
 ghost use Rattle.std.specs.Prelude.{◌≡◌, ℕ, ◌<◌, ◌≤◌, [], length, drop, slice_index, All, Contains, IfOk, OnOk};
 ghost use Rattle.std.specs.List.Sorted.{IsNonDecreasing};
 ghost use Rattle.mars_watch.specs.Watched.{CutAt};
+ghost use Rattle.mars_watch.specs.Gathered.{AreGathered, AreRising, AreInOrder};
 ghost use Rattle.mars_frozen.specs.Freezing.{HasBoth};
-ghost use Rattle.mars_frozen.specs.FrozenInside.{AreGathered, AreRising, AreSettled, AreFound, AreInOrder, IsLookedAt, IsPairSettled, goals_of};
+ghost use Rattle.mars_frozen.specs.FrozenInside.{AreSettled, AreFound, IsLookedAt, IsPairSettled, goals_of};
 
 use mars_base::NoMemory;
 use mars_store::{NodeId, Store};
-use mars_watch::Watchers;
+use mars_watch::{Watchers, once_each};
 use std::alloc::Global;
-
-/// Appends the numbers of the pairs that wait at a variable of a binding, from a place of the trail on.
-pub(crate) fn gather_all(
-    watchers: &Watchers,
-    store: &Store,
-    seen: usize,
-    touched: &mut Vec<usize>,
-) -> Result<(), NoMemory>
-    ensures { OnOk result (AreGathered watchers.now (drop seen store.now.bound) touched.new.items) }
-{
-    for place in seen..store.mark().bound {
-        let (variable, _node) = store.equation(place);
-        watchers.gather(variable, touched)?;
-    }
-    Ok(())
-}
 
 /// Appends the numbers from a number on.
 pub(crate) fn add_unfiled(
@@ -129,23 +114,6 @@ fn settle(
         None => watchers.watch(store.deref(on), number)?,
     }
     Ok(())
-}
-
-/// Numbers that don't fall, each once.
-fn once_each(alloc: Global, size: usize, found: &[usize]) -> Result<Vec<usize>, NoMemory>
-    requires sorted { IsNonDecreasing found.now }
-    requires within { All (λ place. place < size) found.now }
-    ensures { IfOk result (λ places. AreInOrder size found.now places.items) }
-{
-    let mut places = Vec::new(alloc);
-    let mut next = 0;
-    for &place in found {
-        if place >= next {
-            places.push(place)?;
-            next = place + 1;
-        }
-    }
-    Ok(places)
 }
 
 /// The goals at places, in order.

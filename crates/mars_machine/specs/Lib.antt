@@ -12,7 +12,3 @@ pub mod Machines
 pub mod StepLaws
 pub mod RunLaws
 pub mod TellingLaws
--- Worked rows.
-pub mod RowTerms
-pub mod DerivationRows
-pub mod CutRows

@@ -1,9 +1,7 @@
-//! That waking, children, steps, runs and endings are determined, and worked rows.
+//! That waking, children, steps, runs and endings are determined.
 ghost use Rattle.mars_machine.specs.StepLaws.{WakingIsOne, TermNumberIsOne, RuleChildrenAreOne, BuiltInChildIsOne, StepIsOne, StepStaysSolvable};
-ghost use Rattle.mars_machine.specs.RunLaws.{StartIsSolvable, DerivationIsOne, EndIsOne};
+ghost use Rattle.mars_machine.specs.RunLaws.{StartIsSolvable, DerivationIsOne, EndIsOne, EndsWithoutAlternatives, StopsAtBudget};
 ghost use Rattle.mars_machine.specs.TellingLaws.{TermAnswerIsOne, OpenIsOne, LeftIsOne, AskedIsOne};
-ghost use Rattle.mars_machine.specs.CutRows.{CutRows};
-ghost use Rattle.mars_machine.specs.DerivationRows.{DerivationRows, EndsWithoutAlternatives, StopsAtBudget};
 
 /// A step of a state whose alternatives have solutions has one result: which goals wake, which children the rules give,
 /// the number of a term and the child of a built-in are determined. The alternatives after it have solutions, too.
@@ -37,10 +35,4 @@ pub fn telling_is_one()
     ensures differ { OpenIsOne }
     ensures left { LeftIsOne }
     ensures asked { AskedIsOne }
-{}
-
-/// The definitions on small asks: what their steps say, and how they end.
-pub fn derivation_rows()
-    ensures small { DerivationRows }
-    ensures cut { CutRows }
 {}

@@ -10,5 +10,5 @@ mod stepped;
 pub use asked::{Asked, Sayings};
 pub use built_in::{BuiltIn, built_in_of};
 pub use ending::Ending;
-pub use laws::{derivation_is_one, derivation_rows, ends_are_reached, step_is_one, telling_is_one};
+pub use laws::{derivation_is_one, ends_are_reached, step_is_one, telling_is_one};
 pub use stepped::Stepped;

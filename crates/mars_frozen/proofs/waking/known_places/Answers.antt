@@ -3,7 +3,8 @@ use Rattle.std.specs.List.Sorted.{IsNonDecreasing}
 use Rattle.std.proofs.lemmas.Result.{IfOk-weaker}
 use Rattle.std.proofs.lemmas.List.Sorted.{IsNonDecreasingBy-from_sort, All-permutation}
 use Rattle.std.proofs.lemmas.List.Elements.{All-weaker}
-use Rattle.mars_frozen.specs.FrozenInside.{IsKnownPlace, AreInOrder, AreFound}
+use Rattle.mars_watch.specs.Gathered.{AreInOrder}
+use Rattle.mars_frozen.specs.FrozenInside.{IsKnownPlace, AreFound}
 use Rattle.mars_frozen.proofs.Filing.{found-all}
 use Rattle.mars_frozen.proofs.waking.known_places.Goals as goal
 

@@ -1,7 +1,8 @@
 use Rattle.std.proofs.Common.{Ok, Err}
 use Rattle.std.proofs.lemmas.Result.{on_ok_weaker}
 use Rattle.std.proofs.lemmas.List.Sorted.{searched}
-use Rattle.mars_frozen.proofs.Filing.{looked-there, looked-gone, rising-sorted, not-there}
+use Rattle.mars_watch.proofs.CallerLemmas.{rising-sorted, not-there}
+use Rattle.mars_frozen.proofs.Filing.{looked-there, looked-gone}
 use Rattle.mars_frozen.proofs.waking.look_at.Goals as goal
 
 pub returns-in-Ok-clause-looked : goal.returns-in-Ok-clause-looked

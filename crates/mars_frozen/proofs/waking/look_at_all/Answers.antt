@@ -1,6 +1,7 @@
 use Rattle.std.proofs.Common.{◌≡◌, ℕ, suc, ◌+◌, ◌∷◌, drop, get_or, ap, ◌∙◌, arith}
 use Rattle.std.proofs.Math.Seq.{drop-cons}
-use Rattle.mars_frozen.proofs.Filing.{settled-next, cut-cut}
+use Rattle.mars_watch.proofs.CallerLemmas.{cut-cut}
+use Rattle.mars_frozen.proofs.Filing.{settled-next}
 use Rattle.mars_frozen.proofs.waking.look_at_all.Goals as goal
 
 pub loop-number-preserved : goal.loop-number-preserved

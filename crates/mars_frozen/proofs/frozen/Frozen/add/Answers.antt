@@ -1,8 +1,8 @@
 use Rattle.std.proofs.Common.{◌≡◌, ℕ, length, subst, sym, ap, arith}
 use Rattle.std.proofs.lemmas.List.{take_all}
-use Rattle.mars_watch.specs.Lined.{Lined}
-use Rattle.mars_frozen.specs.Freezing.{FrozenPairs, IsLaterFrozen, IsLaterLine}
-use Rattle.mars_frozen.proofs.Marks.{undone-change, later-same}
+use Rattle.mars_watch.specs.Lined.{Lined, IsLaterLine}
+use Rattle.mars_watch.proofs.CallerLemmas.{undone-change, later-same}
+use Rattle.mars_frozen.specs.Freezing.{FrozenPairs, IsLaterFrozen}
 use Rattle.mars_frozen.proofs.frozen.Frozen.add.Goals as goal
 
 pub returns-in-Err-clause-after : goal.returns-in-Err-clause-after

@@ -1,7 +1,7 @@
 use Rattle.std.proofs.Common.{◌≡◌, ℕ, subst, sym, ap}
-use Rattle.mars_watch.specs.Lined.{Lined}
-use Rattle.mars_frozen.specs.Freezing.{FrozenPairs, IsLaterLine}
-use Rattle.mars_frozen.proofs.Marks.{undone-change, later-same}
+use Rattle.mars_watch.specs.Lined.{Lined, IsLaterLine}
+use Rattle.mars_watch.proofs.CallerLemmas.{undone-change, later-same}
+use Rattle.mars_frozen.specs.Freezing.{FrozenPairs}
 use Rattle.mars_frozen.proofs.frozen.Frozen.leave.Goals as goal
 
 pub returns-in-Err-clause-numbers : goal.returns-in-Err-clause-numbers

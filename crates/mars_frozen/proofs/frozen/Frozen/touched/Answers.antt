@@ -1,7 +1,7 @@
 use Rattle.std.proofs.Common.{ℕ, ◌<◌, ◌≤◌, List, length, drop, get_or, Contains, subst, sym, ap, ◌∙◌}
+use Rattle.mars_watch.specs.Gathered.{AreRising, AreGathered}
 use Rattle.mars_frozen.specs.Freezing.{FrozenPairs}
-use Rattle.mars_frozen.specs.FrozenInside.{AreRising, AreGathered}
-use Rattle.mars_frozen.proofs.Lists.{ascending-rises}
+use Rattle.mars_watch.proofs.CallerLemmas.{ascending-rises}
 use Rattle.mars_frozen.proofs.Filing.{all-touched}
 use Rattle.mars_frozen.proofs.frozen.Frozen.touched.Goals as goal
 
@@ -14,8 +14,8 @@ pub returns : goal.returns
 returns c =
     let i = c.self.inside in
     let all : List ℕ = c.add_unfiled.new.touched.items in
-    let gathered : List ℕ = c.gather_all.new.touched.items in
+    let gathered : List ℕ = c.gather_bound.new.gathered.items in
     let added = subst (λ xs. (place : ℕ) → place < length xs → i.filed ≤ get_or xs place 0 → Contains all (get_or xs place 0)) c.now.ensures c.in_ok-add_unfiled.ensures.added in
     all-touched c.args.self.now c.args.store.now gathered all c.requires
-    (subst (λ (f : FrozenPairs). AreGathered f.watches (drop f.seen c.args.store.now.bound) gathered) c.self.view_is c.in_ok-gather_all.ensures) c.add_unfiled.ensures.kept
+    (subst (λ (f : FrozenPairs). AreGathered f.watches (drop f.seen c.args.store.now.bound) gathered) c.self.view_is c.in_ok-gather_bound.ensures) c.add_unfiled.ensures.kept
     (subst (λ (f : FrozenPairs). (place : ℕ) → place < length f.numbers.now → f.filed ≤ get_or f.numbers.now place 0 → Contains all (get_or f.numbers.now place 0)) c.self.view_is added)

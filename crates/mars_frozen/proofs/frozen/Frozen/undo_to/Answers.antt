@@ -1,6 +1,6 @@
 use Rattle.std.proofs.Common.{subst, sym}
+use Rattle.mars_watch.proofs.CallerLemmas.{undone-in-step}
 use Rattle.mars_frozen.specs.Freezing.{FrozenPairs, IsFrozenMark}
-use Rattle.mars_frozen.proofs.Marks.{undone-in-step}
 use Rattle.mars_frozen.proofs.frozen.Frozen.undo_to.Goals as goal
 
 pub invariant_of-self : goal.invariant_of-self

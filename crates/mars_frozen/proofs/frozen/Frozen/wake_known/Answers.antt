@@ -1,9 +1,10 @@
 use Rattle.std.proofs.Common.{◌≡◌, ℕ, List, [], length, sym, ap, ap₂, ◌∙◌, subst, arith}
 use Rattle.mars_store.specs.declared.mark.Mark.{Mark as StoreMark}
-use Rattle.mars_watch.specs.Lined.{AreAscending, without}
-use Rattle.mars_frozen.specs.Freezing.{FrozenPairs, IsLaterLine, AreWoken}
-use Rattle.mars_frozen.specs.FrozenInside.{AreRising, AreSettled, AreFound, goals_of}
-use Rattle.mars_frozen.proofs.Lists.{ascending-rises}
+use Rattle.mars_watch.specs.Lined.{AreAscending, without, IsLaterLine}
+use Rattle.mars_watch.specs.Gathered.{AreRising}
+use Rattle.mars_frozen.specs.Freezing.{FrozenPairs, AreWoken}
+use Rattle.mars_frozen.specs.FrozenInside.{AreSettled, AreFound, goals_of}
+use Rattle.mars_watch.proofs.CallerLemmas.{ascending-rises}
 use Rattle.mars_frozen.proofs.Filing.{touched-settled}
 use Rattle.mars_frozen.proofs.Wakes.{sizes-same, woken-all, can-wake}
 use Rattle.mars_frozen.proofs.frozen.Frozen.wake_known.Goals as goal
