@@ -51,11 +51,13 @@ fn call_table(beside: &mut Beside, who: u32, call: Call) -> Result<Option<Reply>
 fn is_same(reply: &Option<Reply>, plain: PlainReply, cap: u64) -> bool {
     match reply {
         Some(Reply::Kept(Handle(number))) => plain == PlainReply::Root(*number),
-        Some(Reply::Full {
-            rows,
-            fresh,
-            cap: limit,
-        }) => {
+        Some(
+            Reply::Full {
+                rows,
+                fresh,
+                cap: limit,
+            },
+        ) => {
             let wanted = PlainReply::Full {
                 rows: *rows,
                 fresh: *fresh,
@@ -93,7 +95,11 @@ fn kind_of_intern(reply: PlainReply, before: PlainReply, after: PlainReply) -> K
 }
 
 /// Interns a tree on the plain list, with a pin on its root.
-fn intern_plain(plain: &mut PlainTable, who: u32, graph: &Graph) -> Result<(PlainReply, Kind), NoMemory> {
+fn intern_plain(
+    plain: &mut PlainTable,
+    who: u32,
+    graph: &Graph,
+) -> Result<(PlainReply, Kind), NoMemory> {
     let before = plain.counts();
     let reply = plain.add(graph)?;
     let kind = kind_of_intern(reply, before, plain.counts());
@@ -130,10 +136,7 @@ fn both_pin(beside: &mut Beside, who: u32, number: u128) -> Result<Option<Kind>,
     }
     let plain = beside.plain.pin(who, number)?;
     let reply = call_table(beside, who, call)?;
-    Ok(kind_where(
-        is_same(&reply, plain, beside.cap),
-        Kind::Pinned,
-    ))
+    Ok(kind_where(is_same(&reply, plain, beside.cap), Kind::Pinned))
 }
 
 /// Takes a pin off a row of both.
@@ -144,10 +147,7 @@ fn both_drop(beside: &mut Beside, who: u32, number: u128) -> Result<Option<Kind>
     }
     let plain = beside.plain.unpin(who, number);
     let reply = call_table(beside, who, call)?;
-    Ok(kind_where(
-        is_same(&reply, plain, beside.cap),
-        Kind::Dropped,
-    ))
+    Ok(kind_where(is_same(&reply, plain, beside.cap), Kind::Dropped))
 }
 
 /// Whether a reply shows this tree.
@@ -199,18 +199,11 @@ fn counts_same(reply: &Option<Reply>, plain: PlainReply) -> bool {
 /// Counts both.
 fn both_count(beside: &mut Beside, who: u32) -> Result<Option<Kind>, Stop> {
     let reply = call_table(beside, who, Call::Count)?;
-    Ok(kind_where(
-        counts_same(&reply, beside.plain.counts()),
-        Kind::Counted,
-    ))
+    Ok(kind_where(counts_same(&reply, beside.plain.counts()), Kind::Counted))
 }
 
 /// Makes a call on both; none where they differ, else its kind.
-fn both_call(
-    alloc: Global,
-    beside: &mut Beside,
-    draw: &mut Draw,
-) -> Result<Option<Kind>, Stop> {
+fn both_call(alloc: Global, beside: &mut Beside, draw: &mut Draw) -> Result<Option<Kind>, Stop> {
     let (who, number) = draw_pin(&beside.plain, draw);
     match draw.below(12) {
         0 | 1 | 2 | 3 => both_intern(alloc, beside, who, draw),
