@@ -35,7 +35,6 @@ filled-opened nodes s registers place sound inside filled = record {
   bound = refl;
   step = step-none nodes s registers _ sound inside;
   above = λ p n h has. has;
-  other = λ q n not has. has;
   size = length-map (kids_of nodes place) (node_at registers);
   has = λ k p n ep en. found-has registers (kids_of nodes place) k p n (filled k p ep) ep en;
 }
@@ -56,7 +55,6 @@ opened-found nodes s t before after place kids f = record {
   bound = f.bound;
   step = f.step;
   above = f.above;
-  other = f.other;
   size = length-map (kids_of nodes place) (node_at after);
   has = λ k p n ep en. found-has after (kids_of nodes place) k p n (opened-filled nodes s t before after place kids f k p ep) ep en;
 }
