@@ -56,16 +56,20 @@ fn label_of(term: &Term) -> Option<Label> {
         Term::Int(number) => Some(Label::Int(*number)),
         Term::Name(name, terms) => Some(Label::Name {
             name: *name,
-            arity: in_32_bits(terms.len()),
+            arity: count_of(terms.as_slice()),
         }),
-        Term::Tup(terms) => Some(Label::Tup(in_32_bits(terms.len()))),
+        Term::Tup(terms) => Some(Label::Tup(count_of(terms.as_slice()))),
         Term::Dot(_, _) => Some(Label::Dot),
         Term::Str(text) => Some(Label::Str(*text)),
     }
 }
 
-fn in_32_bits(count: usize) -> u32 {
-    u32::try_from(count).unwrap_or(u32::MAX)
+fn count_of(terms: &[Term]) -> u32 {
+    let mut count: u32 = 0;
+    for _ in terms {
+        count = count.saturating_add(1);
+    }
+    count
 }
 
 /// The place that an integer writes.

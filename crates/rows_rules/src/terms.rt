@@ -43,10 +43,14 @@ fn push_parts(
 
 /// Writes a comma, unless a bracket or a blank comes before.
 fn push_comma(into: &mut Vec<u8>) -> Result<(), NoMemory> {
-    match into.last() {
-        Some(b'(' | b' ') | None => Ok(()),
-        _ => Ok(into.extend_from_slice(b",")?),
+    let is_first = match into.last() {
+        Some(last) => *last == b'(' || *last == b' ',
+        None => true,
+    };
+    if !is_first {
+        into.extend_from_slice(b",")?;
     }
+    Ok(())
 }
 
 /// Whether a store has a node.
