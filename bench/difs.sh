@@ -3,11 +3,11 @@
 # tried and undone again and again. Each line is the best of five runs, so that what else the machine does plays a small
 # part. Takes about ten seconds.
 set -eu
-cd "$(dirname "$0")/../crates/bench_difs"
+cd "$(dirname "$0")/../crates/bench"
 rt run >/dev/null
 
 best() {
-    for _ in 1 2 3 4 5; do ./out/bench_difs "$1" "$2" "$3"; done | sort -t, -k2 -V | head -n 1
+    for _ in 1 2 3 4 5; do ./out/bench difs "$1" "$2" "$3"; done | sort -t, -k2 -V | head -n 1
 }
 
 for size in 125 250 500 1000; do

@@ -3,11 +3,11 @@
 # spaced, and a million small calls. Each line is the best of five runs, so that what else the machine does plays a
 # small part. Takes about ten seconds.
 set -eu
-cd "$(dirname "$0")/../crates/bench_equations"
+cd "$(dirname "$0")/../crates/bench"
 rt run >/dev/null
 
 best() {
-    for _ in 1 2 3 4 5; do ./out/bench_equations "$1" "$2" "$3"; done | sort -t, -k3 -V | head -n 1
+    for _ in 1 2 3 4 5; do ./out/bench equations "$1" "$2" "$3"; done | sort -t, -k3 -V | head -n 1
 }
 
 for power in 6 7 8 9 10; do

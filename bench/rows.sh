@@ -4,11 +4,11 @@
 # time is the best of five runs, so that what else the machine does plays a small part. Two are left off the sizes of lists
 # and combs, so that no tree is too large.
 set -eu
-cd "$(dirname "$0")/../crates/bench_rows"
+cd "$(dirname "$0")/../crates/bench"
 rt run >/dev/null
 
 best() {
-    for _ in 1 2 3 4 5; do ./out/bench_rows "$1" "$2"; done | awk '
+    for _ in 1 2 3 4 5; do ./out/bench rows "$1" "$2"; done | awk '
         { for (i = 1; i <= NF; i++) if ($(i + 1) ~ /^us/) { if (!($(i - 1) in least) || $i + 0 < least[$(i - 1)]) least[$(i - 1)] = $i + 0 } head = $1 " " $2 " " $3 " nodes" }
         END { print head ", first " least["first"] " us, again " least["again"] " us, find " least["find"] " us" }'
 }

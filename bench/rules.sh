@@ -3,11 +3,11 @@
 # and building its body, a copy of the latter, and finding one of 4,096 facts by its first argument. A figure is the
 # difference of 11,000 calls and 1,000, so that what comes before the calls plays no part. Takes about a minute.
 set -eu
-cd "$(dirname "$0")/../crates/bench_rules"
+cd "$(dirname "$0")/../crates/bench"
 rt run >/dev/null
 
 count() {
-    valgrind --tool=cachegrind --cache-sim=no --cachegrind-out-file=/dev/null ./out/bench_rules "$1" "$2" 2>&1 >/dev/null |
+    valgrind --tool=cachegrind --cache-sim=no --cachegrind-out-file=/dev/null ./out/bench rules "$1" "$2" 2>&1 >/dev/null |
         awk '/I *refs/ { gsub(",", ""); print $NF }'
 }
 

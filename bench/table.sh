@@ -4,11 +4,11 @@
 # in rows and in a table with its history, by the peak of the memory of two sizes. Each time is the best of three runs, so
 # that what else the machine does plays a small part.
 set -eu
-cd "$(dirname "$0")/../crates/bench_table"
+cd "$(dirname "$0")/../crates/bench"
 rt run >/dev/null
 
 best() {
-    for _ in 1 2 3; do ./out/bench_table "$@"; done
+    for _ in 1 2 3; do ./out/bench table "$@"; done
 }
 
 # the least of the numbers in a column
@@ -18,7 +18,7 @@ peak() {
     python3 -c '
 import resource, subprocess, sys
 subprocess.run(sys.argv[1:], stdout=subprocess.DEVNULL, check=True)
-print(resource.getrusage(resource.RUSAGE_CHILDREN).ru_maxrss)' ./out/bench_table "$@"
+print(resource.getrusage(resource.RUSAGE_CHILDREN).ru_maxrss)' ./out/bench table "$@"
 }
 
 for count in 1000 10000 100000; do

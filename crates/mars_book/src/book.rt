@@ -24,7 +24,7 @@ use mars_turn::Turn;
 use std::alloc::Global;
 use std::sync::Wait;
 
-/// A table behind a turn. A pass is used with the book that made it.
+/// A table that threads call by turns. A pass is used with the book that made it.
 #[derive(Drop)]
 pub struct Book {
     turn: Turn<SharedTable>,

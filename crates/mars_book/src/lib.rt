@@ -1,4 +1,4 @@
-//! The table behind a turn: threads call one table, each with a pass of its own, and doors to it.
+//! A table that threads call by turns, each with a pass of its own, and doors to it.
 #![tactic(auto)]
 
 mod book;

@@ -2,7 +2,7 @@
 use mars_table::{Entry, Table};
 use mars_turn::Listed;
 
-/// A table behind a turn: its list is the history, and what stays the same is the row limit.
+/// A table that threads call by turns: its list is the history, and what stays the same is the row limit.
 #[derive(Drop)]
 pub struct SharedTable {
     pub(crate) table: Table,

@@ -1,11 +1,13 @@
-//! Rows of text that show what stores, unification, answers, inequations, watchers and heads of rules do: one row a line
-//! of standard input, and a line of standard output for each.
+//! Rows of text that show what stores, unification, answers, inequations, watchers, heads of rules, frozen goals and numbers
+//! of terms do: one row a line of standard input, and a line of standard output for each.
 #![tactic(auto)]
 
 mod answers;
 mod building;
 mod changes;
+mod freezing;
 mod keeping;
+mod numbers;
 mod reading;
 mod rules;
 mod scripts;
@@ -14,6 +16,8 @@ mod world;
 mod writing;
 
 use crate::changes::{put_line, put_watchers};
+use crate::freezing::put_frozen;
+use crate::numbers::put_term_number;
 use crate::reading::read_tree;
 use crate::rules::put_goals;
 use crate::scripts::put_script;
@@ -48,6 +52,8 @@ fn put_answer(alloc: Global, word: &str, rest: &str, into: &mut Vec<u8>) -> Resu
         "solve" | "match" => put_of_tree(alloc, word, rest, into),
         "line" => Ok(put_line(alloc, rest, into)?),
         "watchers" => Ok(put_watchers(alloc, rest, into)?),
+        "frozen" => Ok(put_frozen(alloc, rest, into)?),
+        "number" => Ok(put_term_number(alloc, rest, into)?),
         _ => put_shape(alloc, word, numbers_of(rest), into),
     }
 }

@@ -1,11 +1,11 @@
 //! Random calls of four callers on a table and on a plain list of rows, reply by reply.
 use crate::called::{call_applied, call_lent};
+use crate::plain::{PlainReply, PlainTable, Sample, draw_sample};
 use crate::tally::{Kind, Tally};
 use mars_base::NoMemory;
 use mars_canon::Tree;
 use mars_table::{Call, Handle, Reply, Table};
 use mars_tree::Graph;
-use plain_table::{PlainReply, PlainTable, Sample, draw_sample};
 use rows::{Draw, Stop, push_number};
 use std::alloc::Global;
 

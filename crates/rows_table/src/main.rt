@@ -1,11 +1,13 @@
-//! Answers rows on the table: the numbers that trees get, what written calls reply, and whether random ones reply as a plain
-//! list of rows does. `stdin` has the rows, `stdout` the rows with their answers.
+//! Answers rows on the table, and on the rows in it: the numbers that trees get, what written calls reply, and whether random
+//! ones reply as a plain list of rows does. `stdin` has the rows, `stdout` the rows with their answers.
 #![tactic(auto)]
 
 mod beside;
 mod called;
 mod counting;
 mod interning;
+mod pinned;
+mod plain;
 mod tally;
 mod worked;
 
@@ -31,6 +33,7 @@ fn answer(alloc: Global, word: &str, rest: &str, into: &mut Vec<u8>) -> Result<(
         "full" => worked::answer_full(alloc, rest, into),
         "random" => answer_random(alloc, rest, into),
         "counting" => counting::answer_counting(alloc, rest, into),
+        "rows" => pinned::answer_pinned(alloc, rest, into),
         _ => Err(Stop::NoRow),
     }
 }

@@ -97,7 +97,7 @@ fn call_from(running: &mut Running, text: &str) -> Result<Call, Stop> {
     }
 }
 
-/// The caller in front of a call, and the call.
+/// The caller that is written before a call, and the call.
 fn split_caller(text: &str) -> Result<(u32, &str), Stop> {
     match text.split_once(':') {
         Some((who, call)) => match who.parse::<u32>() {
@@ -209,7 +209,7 @@ fn answer_served(
     answer_with(alloc, served, calls, &operands, into)
 }
 
-/// The limit in front of calls, and the calls.
+/// The limit that is written before calls, and the calls.
 fn split_limit(rest: &str) -> Result<(u64, &str), Stop> {
     let Some((cap, calls)) = rest.split_once(' ') else {
         return Err(Stop::OtherParts);

@@ -1,13 +1,22 @@
-//! Answers rows on graphs: what each public call of `mars_tree`, `mars_reach`, `mars_refine` and `mars_comp` gives, on worked
-//! cases and on large shapes. `stdin` has the rows, `stdout` the rows with their answers.
+//! Answers rows on graphs, from their nodes to their texts: what each public call of `mars_tree`, `mars_reach`, `mars_refine`,
+//! `mars_comp`, `mars_first`, `mars_minim`, `mars_canon` and `mars_print` gives, on worked cases and on large shapes, and
+//! what is read back. `stdin` has the rows, `stdout` the rows with their answers.
 #![tactic(auto)]
 
+mod back;
+mod canonical;
+mod compare;
 mod components;
+mod draws;
 mod equality;
+mod forms;
 mod growing;
 mod laid;
+mod plain;
+mod printing;
 mod reaching;
 mod refining;
+mod smallest;
 mod spellings;
 
 use rows::{Layout, Stop, answer_rows, push_graph, read_nodes, read_numbers};
@@ -27,6 +36,14 @@ fn answer(alloc: Global, word: &str, rest: &str, into: &mut Vec<u8>) -> Result<(
         "names" => spellings::answer_names(alloc, rest, into),
         "listed" => spellings::answer_listed(alloc, rest, into),
         "order" => reaching::answer_order(alloc, rest, into),
+        "least" | "layout" | "form" | "one" | "tree" | "size" | "twins" | "copy" => {
+            forms::answer_trees(alloc, word, rest, into)
+        }
+        "three" => draws::answer_three(alloc, into),
+        "drawn" => draws::answer_drawn(alloc, rest, into),
+        "canon" => printing::answer_canon(alloc, rest, into),
+        "print" => printing::answer_print(alloc, rest, into),
+        "back" => back::answer_back(alloc, rest, into),
         _ => answer_laid(alloc, word, rest, into),
     }
 }

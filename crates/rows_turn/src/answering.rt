@@ -1,5 +1,6 @@
 //! The answer of a row, by its first word.
 use crate::alone::{Stages, history_in_order, tell_stages};
+use crate::book::answer_book;
 use crate::closing::Closed;
 use crate::history::{Entry, count_of, counted};
 use crate::threads::{Shape, Told, history_of_four, keep_by_two};
@@ -21,6 +22,7 @@ pub(crate) fn answer<R: Threads + Wait + Sync>(
         "keep" => answer_keep(rt, alloc, rest, into),
         "order" => answer_order(rt, alloc, rest, into),
         "complete" => push_stages(alloc, tell_stages(rt, alloc)?, into),
+        "book" => answer_book(rt, alloc, rest, into),
         _ => push(into, "no such row"),
     }
 }

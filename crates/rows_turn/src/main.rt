@@ -1,9 +1,11 @@
-//! Answers rows on the turn: callers that take it one after the other, on one thread and in several. Each line of standard
-//! input is written again, and after it `-->` and its answer where it is a row: no comment and not blank.
+//! Answers rows on the turn and on the book: callers that take the turn one after the other, and that call one table, on one
+//! thread and in several. Each line of standard input is written again, and after it `-->` and its answer where it is a row:
+//! no comment and not blank.
 #![tactic(auto)]
 
 mod alone;
 mod answering;
+mod book;
 mod callers;
 mod closing;
 mod history;

@@ -1,5 +1,0 @@
-use Rattle.mars_dif.specs.Kept.{Serves}
-use Rattle.bench_difs.proofs.histories.run_outer.Given as goal
-
-abbrev pub invariant-loop : goal.invariant-loop
-invariant-loop l = Serves l.world.difs l.world.store

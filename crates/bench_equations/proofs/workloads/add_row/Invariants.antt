@@ -1,8 +1,0 @@
-use Rattle.std.proofs.Common.{◌<◌, ◌≤◌, length}
-use Rattle.bench_equations.proofs.workloads.add_row.Given as goal
-
-abbrev pub invariant-loop : goal.invariant-loop
-invariant-loop l = record {
-  top : l.top < length l.store.nodes;
-  more : length l.fn.store.nodes ≤ length l.store.nodes;
-}
