@@ -8,6 +8,7 @@ mod changes;
 mod freezing;
 mod keeping;
 mod numbers;
+mod plain_numbers;
 mod reading;
 mod rules;
 mod scripts;
@@ -18,6 +19,7 @@ mod writing;
 use crate::changes::{put_line, put_watchers};
 use crate::freezing::put_frozen;
 use crate::numbers::put_term_number;
+use crate::plain_numbers::put_plain;
 use crate::reading::read_tree;
 use crate::rules::put_goals;
 use crate::scripts::put_script;
@@ -81,6 +83,7 @@ fn put_shape(
         "levels" => Ok(put_levels(alloc, first, into)?),
         "lists" => Ok(put_lists(alloc, first, into)?),
         "towers" => Ok(put_towers(alloc, first, second, into)?),
+        "plain" => Ok(put_plain(alloc, first, into)?),
         _ => Err(Stop::NoRow),
     }
 }
