@@ -1,0 +1,6 @@
+-- Promised: the memory of a machine as one, when it holds an alternative, and what its calls find.
+pub mod Memory
+pub mod Holding
+pub mod Found
+-- Laws: marks of a memory.
+pub mod MemoryLaws

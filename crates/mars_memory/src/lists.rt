@@ -1,0 +1,1 @@
+//! Goals before a list: those of a rule's body, and those that wake.

@@ -1,0 +1,1 @@
+//! What is done after nodes were made equal: inequations are looked at again, and goals wake.
