@@ -1,6 +1,8 @@
 -- The memory of a machine: its store, its inequations, its frozen pairs and its goal lists, marked and undone as one.
-use Rattle.std.specs.Prelude.{◌≡◌, ℕ, ◌<◌, ◌≤◌, List, length, take}
-use Rattle.mars_store.specs.System.{System, IsMark, Grows, mark_of, undone}
+use Rattle.std.specs.Prelude.{◌≡◌, ℕ, ◌<◌, ◌≤◌, List, [], ◌∷◌, length, take, Option, None}
+use Rattle.mars_tree.specs.declared.label.Label.{Label}
+use Rattle.mars_tree.specs.Graph.{label_of, kids_of}
+use Rattle.mars_store.specs.System.{System, IsMark, Grows, mark_of, undone, resolve}
 use Rattle.mars_dif.specs.Kept.{Kept, keeper_mark, keeper_undone, IsKeeperMark, IsAfter}
 use Rattle.mars_frozen.specs.Freezing.{FrozenPairs, frozen_mark, frozen_undone, IsFrozenMark, IsLaterFrozen}
 use Rattle.mars_goals.specs.declared.cells.Pending.{Pending}
@@ -12,6 +14,19 @@ pub record MemoryParts : Type 0 where
   pub difs : Kept
   pub frozen : FrozenPairs
   pub lists : List (List Pending)
+
+-- the label at the root of a node's tree, where it is known
+abbrev pub root_of_node : System → ℕ → Option Label
+root_of_node system node = label_of system.nodes (resolve system.bound node)
+
+-- the label at the root of the first of some kids, where there is one and it is known
+abbrev pub root_of_first : System → List ℕ → Option Label
+root_of_first system [] = None
+root_of_first system (kid ∷ kids) = root_of_node system kid
+
+-- the same of the first kid of the root of a node's tree
+abbrev pub first_of_node : System → ℕ → Option Label
+first_of_node system node = root_of_first system (kids_of system.nodes (resolve system.bound node))
 
 -- the present state
 abbrev pub memory_mark : MemoryParts → MachineMark

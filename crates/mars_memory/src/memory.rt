@@ -3,7 +3,7 @@ ghost use Rattle.std.specs.Prelude.{◌≡◌, ◌<◌, [], ◌∷◌, length};
 ghost use Rattle.mars_dif.specs.Kept.{no_difs};
 ghost use Rattle.mars_frozen.specs.Freezing.{no_frozen};
 ghost use Rattle.mars_goals.specs.GoalLists.{TellsFirst, list_at};
-ghost use Rattle.mars_memory.specs.Memory.{memory_mark, memory_undone, IsMemoryMark};
+ghost use Rattle.mars_memory.specs.Memory.{memory_mark, memory_undone, IsMemoryMark, root_of_node, first_of_node};
 
 use mars_dif::DifStore;
 use mars_frozen::Frozen;
@@ -76,5 +76,27 @@ impl Memory {
         ensures { TellsFirst self.now.lists list result }
     {
         self.lists.first(list)
+    }
+
+    /// The label at the root of a node's tree, `None` exactly where it isn't known. Linear in the node's links.
+    #[inline]
+    pub fn root_label(&self, node: NodeId) -> Option<Label>
+        requires { node < length self.now.system.nodes }
+        ensures { result ≡ root_of_node self.now.system node }
+    {
+        self.store.root_label(node)
+    }
+
+    /// The label at the root of the first kid of a node's tree, `None` exactly where there is no kid or the label isn't
+    /// known. Linear in both nodes' links.
+    #[inline]
+    pub fn first_label(&self, node: NodeId) -> Option<Label>
+        requires { node < length self.now.system.nodes }
+        ensures { result ≡ first_of_node self.now.system node }
+    {
+        match self.store.root_label(node) {
+            Some(label) if label.arity() > 0 => self.store.root_label(self.store.kid(node, 0)),
+            _ => None,
+        }
     }
 }
