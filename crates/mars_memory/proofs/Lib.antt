@@ -1,1 +1,3 @@
+pub mod BuiltIns
+pub mod Calls
 pub mod Marks

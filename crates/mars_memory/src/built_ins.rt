@@ -1,9 +1,11 @@
 //! Calls of built-ins.
 ghost use Rattle.std.specs.Prelude.{IfOk};
+ghost use Rattle.mars_machine.specs.declared.built_in.BuiltIn.TheVariants.{Dif as DifCall, Freeze, Bound, Free, Out, OutText};
 ghost use Rattle.mars_memory.specs.Found.{HasCall, IsCallOf, IsDone};
 
 use crate::memory::Memory;
 use mars_base::NoMemory;
+use mars_dif::Dif;
 use mars_goals::GoalList;
 use mars_machine::BuiltIn;
 use mars_store::NodeId;
@@ -21,5 +23,96 @@ pub fn call_built_in(
     requires label { IsCallOf memory.old node built_in }
     ensures { IfOk result (IsDone memory.old node rest built_in memory.new) }
 {
-    Err(NoMemory)
+    match built_in {
+        BuiltIn::Eq => Err(NoMemory),
+        BuiltIn::Dif => call_dif(memory, node, rest),
+        BuiltIn::Freeze => call_freeze(memory, node, rest),
+        BuiltIn::Val => Err(NoMemory),
+        BuiltIn::Bound => Ok(call_bound(memory, node, rest)),
+        BuiltIn::Free => Ok(call_free(memory, node, rest)),
+        BuiltIn::Out => Ok(call_out(memory, node, rest)),
+        BuiltIn::OutText => Ok(call_out_text(memory, node, rest)),
+    }
+}
+
+/// Keeps both arguments from being equal: where they are equal already there is no child.
+fn call_dif(memory: &mut Memory, node: NodeId, rest: GoalList) -> Result<Option<GoalList>, NoMemory>
+    requires held { HasCall memory.old node rest }
+    requires label { IsCallOf memory.old node DifCall }
+    ensures { IfOk result (IsDone memory.old node rest DifCall memory.new) }
+{
+    let left = memory.argument(node, 0);
+    let right = memory.argument(node, 1);
+    match memory.keep_apart(left, right)? {
+        Dif::Fails => Ok(None),
+        _ => Ok(Some(rest)),
+    }
+}
+
+/// Calls the second argument where the first is known, and else lets it wait.
+fn call_freeze(
+    memory: &mut Memory,
+    node: NodeId,
+    rest: GoalList,
+) -> Result<Option<GoalList>, NoMemory>
+    requires held { HasCall memory.old node rest }
+    requires label { IsCallOf memory.old node Freeze }
+    ensures { IfOk result (IsDone memory.old node rest Freeze memory.new) }
+{
+    let on = memory.argument(node, 0);
+    let goal = memory.argument(node, 1);
+    match memory.root_label(on) {
+        Some(_) => Ok(Some(memory.call_before(goal, rest)?)),
+        None => {
+            memory.freeze(on, goal)?;
+            Ok(Some(rest))
+        }
+    }
+}
+
+/// Goes on where the argument is known.
+fn call_bound(memory: &Memory, node: NodeId, rest: GoalList) -> Option<GoalList>
+    requires held { HasCall memory.now node rest }
+    requires label { IsCallOf memory.now node Bound }
+    ensures { IsDone memory.now node rest Bound memory.now result }
+{
+    let kid = memory.argument(node, 0);
+    match memory.root_label(kid) {
+        Some(_) => Some(rest),
+        None => None,
+    }
+}
+
+/// Goes on where the argument isn't known.
+fn call_free(memory: &Memory, node: NodeId, rest: GoalList) -> Option<GoalList>
+    requires held { HasCall memory.now node rest }
+    requires label { IsCallOf memory.now node Free }
+    ensures { IsDone memory.now node rest Free memory.now result }
+{
+    let kid = memory.argument(node, 0);
+    match memory.root_label(kid) {
+        Some(_) => None,
+        None => Some(rest),
+    }
+}
+
+/// Goes on: what it says is told by `tell_tree`.
+fn call_out(memory: &Memory, node: NodeId, rest: GoalList) -> Option<GoalList>
+    requires held { HasCall memory.now node rest }
+    ensures { IsDone memory.now node rest Out memory.now result }
+{
+    Some(rest)
+}
+
+/// Goes on where the argument is a string: what it says is told by `tell_text`.
+fn call_out_text(memory: &Memory, node: NodeId, rest: GoalList) -> Option<GoalList>
+    requires held { HasCall memory.now node rest }
+    requires label { IsCallOf memory.now node OutText }
+    ensures { IsDone memory.now node rest OutText memory.now result }
+{
+    let kid = memory.argument(node, 0);
+    match memory.string_at(kid) {
+        Some(_) => Some(rest),
+        None => None,
+    }
 }
