@@ -1,3 +1,4 @@
 pub mod Marks
 pub mod Pushing
 pub mod Settled
+pub mod Carrying
