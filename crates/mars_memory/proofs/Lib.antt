@@ -1,3 +1,6 @@
 pub mod BuiltIns
 pub mod Calls
 pub mod Marks
+pub mod Pushing
+pub mod Settled
+pub mod Carrying

@@ -4,3 +4,5 @@ pub mod Holding
 pub mod Found
 -- Laws: marks of a memory.
 pub mod MemoryLaws
+-- Inside: the code's own steps, promised to nobody.
+pub mod ListsInside

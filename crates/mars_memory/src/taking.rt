@@ -3,9 +3,12 @@ ghost use Rattle.std.specs.Prelude.{◌≡◌, ◌<◌, length, IfOk};
 ghost use Rattle.mars_matching.specs.Trees.{IsTemplate};
 ghost use Rattle.mars_memory.specs.Found.{HasCall, IsTaken};
 
+use crate::lists::push_body;
 use crate::memory::Memory;
+use crate::settling::settle;
 use mars_base::NoMemory;
 use mars_goals::GoalList;
+use mars_matching::{build_body, match_head};
 use mars_rules::FlatRule;
 use mars_store::NodeId;
 use std::alloc::Global;
@@ -42,5 +45,46 @@ pub fn take_rule(
     requires held { HasCall memory.old node rest }
     ensures { IfOk result (IsTaken memory.old node rest depth flat.now memory.new) }
 {
-    Err(NoMemory)
+    let mark = memory.mark();
+    if !match_head(
+        alloc,
+        &mut memory.store,
+        &flat.template,
+        node,
+        &mut registers.nodes,
+        &mut registers.kids,
+    )? {
+        return Ok(None);
+    }
+    let list = write_body(memory, flat, rest, depth, registers)?;
+    let found = settle(memory, list)?;
+    if found.is_none() {
+        memory.undo_to(mark);
+    }
+    Ok(found)
+}
+
+/// Builds a rule's body after its head was matched, and puts its goals before a list.
+fn write_body(
+    memory: &mut Memory,
+    flat: &FlatRule,
+    rest: GoalList,
+    depth: usize,
+    registers: &mut Registers,
+) -> Result<GoalList, NoMemory>
+    requires inside { rest < length memory.old.lists }
+{
+    build_body(
+        &mut memory.store,
+        &flat.template,
+        &mut registers.nodes,
+        &mut registers.kids,
+    )?;
+    push_body(
+        &mut memory.lists,
+        &flat.goals,
+        &registers.nodes,
+        depth,
+        rest,
+    )
 }
