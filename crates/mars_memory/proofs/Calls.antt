@@ -45,7 +45,7 @@ module _ (asked : List ℕ) (m : MemoryParts) (groups : List (List Alternative))
       part_denoted parent.equations m.system (h.holds.writes.vars) (h.holds.writes.represents) (h.holds.writes.sound) node call (held-call.call_is) label is place kid at
 
   -- the call is done, and nothing else changed
-  pub gone-on : Holds asked m groups (list_at m.lists rest) (record parent { goals = others })
+  abbrev pub gone-on : Holds asked m groups (list_at m.lists rest) (record parent { goals = others })
   gone-on = let w = h.holds.writes in record {
     writes = record {
       sound = w.sound;

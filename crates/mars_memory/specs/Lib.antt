@@ -5,4 +5,5 @@ pub mod Found
 -- Laws: marks of a memory.
 pub mod MemoryLaws
 -- Inside: the code's own steps, promised to nobody.
+pub mod BuiltInsInside
 pub mod ListsInside
