@@ -6,3 +6,4 @@ pub mod Found
 pub mod MemoryLaws
 -- Inside: the code's own steps, promised to nobody.
 pub mod ListsInside
+pub mod TakingInside
