@@ -1,5 +1,5 @@
 -- An alternative that is written, after nodes were added or made equal.
-use Rattle.std.proofs.Common.{◌≡◌, ℕ, ◌+◌, ◌<◌, ◌≤◌, List, [], ◌∷◌, length, map, get_or, All, refl, sym, ap, ◌∙◌, subst, arith}
+use Rattle.std.proofs.Common.{◌≡◌, ℕ, ◌+◌, ◌<◌, ◌≤◌, List, [], ◌∷◌, length, map, get_or, All, refl, sym, ap, ◌∙◌, subst, arith, zero-add}
 use Rattle.std.specs.List.{range_with_len}
 use Rattle.std.proofs.lemmas.List.Elements.{All-nil, All-cons, All-head, All-tail, All-weaker, All-from_get_or}
 use Rattle.std.proofs.lemmas.List.FromFn.{get_or-map-range_with_len, length-map-range_with_len}
@@ -26,7 +26,7 @@ use Rattle.mars_memory.specs.Holding.DenoteGoals.{none, calls, cuts}
 -- a variable of an ask is one of those in use
 asked-var : (count next x : ℕ) → x < count → count ≤ next → UsesBelow next (Renamed 0 (Var x))
 asked-var count next x h few =
-    uses_more count next few (Renamed 0 (Var x))
+    uses_more (0 + count) next (omega (arith, few)) (Renamed 0 (Var x))
     (uses_renamed 0 count (Var x) (All-cons (λ part. All (λ y. y < count) (number_of_var part) × (number_of_kept part ≡ [])) (Var x) []
     (All-cons (λ y. y < count) x [] h (All-nil (λ y. y < count)), refl) (All-nil (λ part. All (λ y. y < count) (number_of_var part) × (number_of_kept part ≡ [])))))
 
@@ -35,7 +35,7 @@ asked_uses count next few =
     All-from_get_or (UsesBelow next) (ask_variables count) (Renamed 0 (Var 0)) (λ i h.
     let size = length-map-range_with_len (λ x. Renamed 0 (Var x)) 0 count in
     let here : i < count = omega (arith, h, size) in
-    subst (UsesBelow next) (sym (get_or-map-range_with_len (λ x. Renamed 0 (Var x)) 0 count i i (Renamed 0 (Var 0)) here refl)) (asked-var count next i here few))
+    subst (UsesBelow next) (sym (get_or-map-range_with_len (λ x. Renamed 0 (Var x)) 0 count i i (Renamed 0 (Var 0)) here (zero-add i))) (asked-var count next i here few))
 
 -- the new store represents the new equations, and nodes denote what they denoted; inequations, frozen pairs are as before
 pub record Carries (old new : MemoryParts) (e f : Equations) (vars all : List ℕ) : Type 0 where

@@ -5,3 +5,4 @@ pub mod Marks
 pub mod Pushing
 pub mod Settled
 pub mod Carrying
+pub mod Trying

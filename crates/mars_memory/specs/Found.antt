@@ -64,10 +64,21 @@ pub record HasCall (m : MemoryParts) (node rest : ℕ) : Type 0 where
   pub others : List OpenGoal
   pub is_call : HoldsCall asked m groups node rest parent call others
 
--- whichever alternative with this call is held, it has no child by the rule
-abbrev pub HasNoRuleChild : MemoryParts → ℕ → ℕ → Rule → Type 0
-HasNoRuleChild m node rest rule = (asked : List ℕ) (groups : List (List Alternative)) (parent : Alternative) (call : Subject) (others : List OpenGoal)
-    → HoldsCall asked m groups node rest parent call others
+-- there is one before so many choice points
+pub record HasCallAt (m : MemoryParts) (node rest depth : ℕ) : Type 0 where
+  pub has : HasCall m node rest
+  pub depth_is : length has.groups ≡ depth
+
+-- a rule that is well formed is laid out so
+pub record HasRule (flat : FlatRule) : Type 0 where
+  pub rule : Rule
+  pub is_rule : IsRule rule
+  pub is_flat : IsFlatRule rule flat
+
+-- whichever alternative with this call is held before so many choice points, it has no child by the rule
+abbrev pub HasNoRuleChild : MemoryParts → ℕ → ℕ → ℕ → Rule → Type 0
+HasNoRuleChild m node rest depth rule = (asked : List ℕ) (groups : List (List Alternative)) (parent : Alternative) (call : Subject) (others : List OpenGoal)
+    → HoldsCall asked m groups node rest parent call others → length groups ≡ depth
     → (child : Alternative) → IsRuleChild parent call others (length (alternatives_of groups)) rule child → ⊥
 
 -- a child by a rule is held after the call was
@@ -84,7 +95,7 @@ HasRuleChild m node rest depth rule new list = (asked : List ℕ) (groups : List
 
 -- a rule was tried: there is no child and the memory is as before, or there is one
 abbrev pub IsTaken : MemoryParts → ℕ → ℕ → ℕ → FlatRule → MemoryParts → Option ℕ → Type 0
-IsTaken old node rest depth flat new None = (new ≡ old) × ((rule : Rule) → IsRule rule → IsFlatRule rule flat → HasNoRuleChild old node rest rule)
+IsTaken old node rest depth flat new None = (new ≡ old) × ((rule : Rule) → IsRule rule → IsFlatRule rule flat → HasNoRuleChild old node rest depth rule)
 IsTaken old node rest depth flat new (Some list) = IsLaterMemory old new × (list < length new.lists)
     × ((rule : Rule) → IsRule rule → IsFlatRule rule flat → HasRuleChild old node rest depth rule new list)
 

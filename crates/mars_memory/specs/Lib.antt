@@ -7,3 +7,4 @@ pub mod MemoryLaws
 -- Inside: the code's own steps, promised to nobody.
 pub mod BuiltInsInside
 pub mod ListsInside
+pub mod TakingInside

@@ -1,7 +1,8 @@
 //! Trying one rule on a call.
 ghost use Rattle.std.specs.Prelude.{◌≡◌, ◌<◌, length, IfOk};
-ghost use Rattle.mars_matching.specs.Trees.{IsTemplate};
-ghost use Rattle.mars_memory.specs.Found.{HasCall, IsTaken};
+ghost use Rattle.mars_store.specs.System.{IsSystem};
+ghost use Rattle.mars_memory.specs.Found.{HasCallAt, HasRule, IsTaken};
+ghost use Rattle.mars_memory.specs.TakingInside.{IsHeadMatched, IsBodyWritten};
 
 use crate::lists::push_body;
 use crate::memory::Memory;
@@ -41,8 +42,8 @@ pub fn take_rule(
     depth: usize,
     registers: &mut Registers,
 ) -> Result<Option<GoalList>, NoMemory>
-    requires template { IsTemplate flat.now.template }
-    requires held { HasCall memory.old node rest }
+    requires rule { HasRule flat.now }
+    requires held { HasCallAt memory.old node rest depth }
     ensures { IfOk result (IsTaken memory.old node rest depth flat.now memory.new) }
 {
     let mark = memory.mark();
@@ -57,11 +58,13 @@ pub fn take_rule(
         return Ok(None);
     }
     let list = write_body(memory, flat, rest, depth, registers)?;
-    let found = settle(memory, list)?;
-    if found.is_none() {
-        memory.undo_to(mark);
+    match settle(memory, list)? {
+        Some(found) => Ok(Some(found)),
+        None => {
+            memory.undo_to(mark);
+            Ok(None)
+        }
     }
-    Ok(found)
 }
 
 /// Builds a rule's body after its head was matched, and puts its goals before a list.
@@ -73,6 +76,9 @@ fn write_body(
     registers: &mut Registers,
 ) -> Result<GoalList, NoMemory>
     requires inside { rest < length memory.old.lists }
+    requires rule { HasRule flat.now }
+    requires matched { IsHeadMatched flat.now memory.old.system registers.old.nodes.items }
+    ensures { IfOk result (λ list. IsBodyWritten memory.old memory.new flat.now rest depth registers.old.nodes.items registers.new.nodes.items list) }
 {
     build_body(
         &mut memory.store,
@@ -80,11 +86,12 @@ fn write_body(
         &mut registers.nodes,
         &mut registers.kids,
     )?;
-    push_body(
+    let list = push_body(
         &mut memory.lists,
         &flat.goals,
         &registers.nodes,
         depth,
         rest,
-    )
+    )?;
+    Ok(list)
 }
