@@ -1,14 +1,17 @@
 //! Calls of built-ins.
 ghost use Rattle.std.specs.Prelude.{IfOk};
-ghost use Rattle.mars_machine.specs.declared.built_in.BuiltIn.TheVariants.{Dif as DifCall, Freeze, Bound, Free, Out, OutText};
+ghost use Rattle.mars_machine.specs.declared.built_in.BuiltIn.TheVariants.{Eq, Dif as DifCall, Val, Freeze, Bound, Free, Out, OutText};
 ghost use Rattle.mars_memory.specs.Found.{HasCall, IsCallOf, IsDone};
+ghost use Rattle.mars_memory.specs.BuiltInsInside.{HasPair, IsMadeEqual};
 
 use crate::memory::Memory;
+use crate::settling::settle;
 use mars_base::NoMemory;
 use mars_dif::Dif;
 use mars_goals::GoalList;
 use mars_machine::BuiltIn;
 use mars_store::NodeId;
+use mars_unify::Unified;
 use std::alloc::Global;
 
 /// Calls a built-in before a list: `None` exactly where the call has no child, and else the goals of the child.
@@ -24,14 +27,70 @@ pub fn call_built_in(
     ensures { IfOk result (IsDone memory.old node rest built_in memory.new) }
 {
     match built_in {
-        BuiltIn::Eq => Err(NoMemory),
+        BuiltIn::Eq => call_eq(alloc, memory, node, rest),
         BuiltIn::Dif => call_dif(memory, node, rest),
         BuiltIn::Freeze => call_freeze(memory, node, rest),
-        BuiltIn::Val => Err(NoMemory),
+        BuiltIn::Val => call_val(alloc, memory, node, rest),
         BuiltIn::Bound => Ok(call_bound(memory, node, rest)),
         BuiltIn::Free => Ok(call_free(memory, node, rest)),
         BuiltIn::Out => Ok(call_out(memory, node, rest)),
         BuiltIn::OutText => Ok(call_out_text(memory, node, rest)),
+    }
+}
+
+/// Makes both arguments equal.
+fn call_eq(
+    alloc: Global,
+    memory: &mut Memory,
+    node: NodeId,
+    rest: GoalList,
+) -> Result<Option<GoalList>, NoMemory>
+    requires held { HasCall memory.old node rest }
+    requires label { IsCallOf memory.old node Eq }
+    ensures { IfOk result (IsDone memory.old node rest Eq memory.new) }
+{
+    let left = memory.argument(node, 0);
+    let right = memory.argument(node, 1);
+    make_equal(alloc, memory, left, right, rest)
+}
+
+/// Makes the second argument the number of the first: where this has none there is no child.
+fn call_val(
+    alloc: Global,
+    memory: &mut Memory,
+    node: NodeId,
+    rest: GoalList,
+) -> Result<Option<GoalList>, NoMemory>
+    requires held { HasCall memory.old node rest }
+    requires label { IsCallOf memory.old node Val }
+    ensures { IfOk result (IsDone memory.old node rest Val memory.new) }
+{
+    let expression = memory.argument(node, 0);
+    let value = memory.argument(node, 1);
+    match memory.number_at(alloc, expression)? {
+        Some(number) => {
+            let integer = memory.integer(number)?;
+            make_equal(alloc, memory, value, integer, rest)
+        }
+        None => Ok(None),
+    }
+}
+
+/// Makes two nodes equal before a list, and puts what wakes before it: `None` exactly where they can't be equal, or the
+/// inequations would fail.
+fn make_equal(
+    alloc: Global,
+    memory: &mut Memory,
+    left: NodeId,
+    right: NodeId,
+    rest: GoalList,
+) -> Result<Option<GoalList>, NoMemory>
+    requires { HasPair memory.old rest left right }
+    ensures { IfOk result (IsMadeEqual memory.old rest left right memory.new) }
+{
+    match memory.unify(alloc, left, right)? {
+        Unified::No => Ok(None),
+        Unified::Yes { bound: _ } => settle(memory, rest),
     }
 }
 

@@ -1,9 +1,11 @@
 //! What calls of built-ins ask of a memory, and change in it.
 ghost use Rattle.std.specs.Prelude.{◌≡◌, ℕ, ◌<◌, ◌∷◌, [], List, Some, ◌++◌, length, slice_get, IfOk, OnOk, OnErr, MatchOption};
-ghost use Rattle.mars_tree.specs.declared.label.Label.TheVariants.{Str};
+ghost use Rattle.mars_tree.specs.declared.label.Label.TheVariants.{Int, Str};
 ghost use Rattle.mars_tree.specs.declared.label.NameId.{NameId};
-ghost use Rattle.mars_tree.specs.Graph.{kids_of};
-ghost use Rattle.mars_store.specs.System.{resolve};
+ghost use Rattle.mars_tree.specs.Graph.{kids_of, labelled};
+ghost use Rattle.mars_store.specs.System.{IsSystem, resolve, with_node};
+ghost use Rattle.mars_unify.specs.Unified.{OnYes, OnNo, IsSolved, Extends, AreApart};
+ghost use Rattle.mars_val.specs.Number.{IsNumberOf};
 ghost use Rattle.mars_dif.specs.Told.{IsTold};
 ghost use Rattle.mars_dif.specs.Kept.{IsCurrent, IsKeeper, Serves, with_dif, IsAfter};
 ghost use Rattle.mars_frozen.specs.Freezing.{with_frozen, IsLaterFrozen};
@@ -17,6 +19,9 @@ use mars_dif::Dif;
 use mars_goals::{GoalList, Pending};
 use mars_store::NodeId;
 use mars_tree::{Label, NameId};
+use mars_unify::{Unified, unify};
+use mars_val::eval;
+use std::alloc::Global;
 
 impl Memory {
     /// The node of the argument at a place of a call. Linear in the node's links.
@@ -70,5 +75,40 @@ impl Memory {
         ensures ok { OnOk result (self.new ≡ record self.old { lists = self.old.lists ++ (Call node ∷ list_at self.old.lists rest) ∷ [] }) }
     {
         self.lists.push(Pending::Call(node), rest)
+    }
+
+    /// The number of a node's tree, `None` exactly where it has none: what `eval` takes.
+    pub(crate) fn number_at(&self, alloc: Global, node: NodeId) -> Result<Option<i64>, NoMemory>
+        requires { node < length self.now.system.nodes }
+        ensures { IfOk result (λ number. IsNumberOf self.now.system node number) }
+    {
+        eval(alloc, &self.store, node)
+    }
+
+    /// Adds a node with an integer. Constant.
+    pub(crate) fn integer(&mut self, value: i64) -> Result<NodeId, NoMemory>
+        ensures node { IfOk result (λ node. node ≡ length self.old.system.nodes) }
+        ensures ok { OnOk result (self.new ≡ record self.old { system = with_node self.old.system (labelled (Int value) []) }) }
+    {
+        self.store.add(Label::Int(value), &[])
+    }
+
+    /// Makes two nodes equal: what `unify` takes.
+    pub(crate) fn unify(
+        &mut self,
+        alloc: Global,
+        left: NodeId,
+        right: NodeId,
+    ) -> Result<Unified, NoMemory>
+        requires left { left < length self.old.system.nodes }
+        requires right { right < length self.old.system.nodes }
+        ensures solved { OnYes result (λ bound. IsSolved self.old.system self.new.system left right) }
+        ensures extends { OnYes result (λ bound. Extends self.old.system self.new.system bound) }
+        ensures apart { OnNo result (AreApart self.old.system left right) }
+        ensures kept { OnNo result (self.new ≡ self.old) }
+        ensures system { IsSystem self.new.system }
+        ensures others { self.new ≡ record self.old { system = self.new.system } }
+    {
+        unify(alloc, &mut self.store, left, right)
     }
 }

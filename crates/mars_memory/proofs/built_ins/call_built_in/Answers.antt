@@ -19,3 +19,9 @@ returns-in-Out c = subst (λ b. IsDone c.args.memory.now c.args.node c.args.rest
 
 pub returns-in-OutText : goal.returns-in-OutText
 returns-in-OutText c = subst (λ b. IsDone c.args.memory.now c.args.node c.args.rest b c.args.memory.now c.call_out_text.result) (sym c.in-OutText.is) c.call_out_text.ensures
+
+pub returns-in-Eq : goal.returns-in-Eq
+returns-in-Eq c = subst (λ b. IfOk c.call_eq.result (IsDone c.args.memory.now c.args.node c.args.rest b c.call_eq.new.memory)) (sym c.in-Eq.is) c.call_eq.ensures
+
+pub returns-in-Val : goal.returns-in-Val
+returns-in-Val c = subst (λ b. IfOk c.call_val.result (IsDone c.args.memory.now c.args.node c.args.rest b c.call_val.new.memory)) (sym c.in-Val.is) c.call_val.ensures
