@@ -6,3 +6,4 @@ pub mod Pushing
 pub mod Settled
 pub mod Carrying
 pub mod Trying
+pub mod Quiet

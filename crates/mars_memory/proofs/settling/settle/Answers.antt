@@ -5,6 +5,7 @@ use Rattle.mars_memory.specs.Memory.{MemoryParts}
 use Rattle.mars_memory.specs.Found.{IsSettled}
 use Rattle.mars_memory.specs.ListsInside.{ArePushed, calls_of}
 use Rattle.mars_memory.proofs.Settled.{settled_none, settled_some}
+use Rattle.mars_memory.proofs.Quiet.{quiet_settled}
 use Rattle.mars_memory.proofs.settling.settle.Goals as goal
 
 -- src/settling.rt:17:9
@@ -28,3 +29,9 @@ returns c =
     c.in_ok-recheck.ensures.current
     (subst (λ s. AreWoken s (waiting_pairs old.frozen) c.in_ok-woken.woken.items (waiting_pairs new.frozen)) c.recheck.ensures.store c.in_ok-woken.ensures.woken)
     (subst (λ s. CanWake new.frozen s) c.recheck.ensures.store c.in_ok-woken.ensures.ready))
+
+-- src/settling.rt:29:9
+pub returns-then-is_quiet : goal.returns-then-is_quiet
+returns-then-is_quiet c =
+    let quiet = c.is_quiet.ensures c.if-is_quiet.true in
+    quiet_settled c.args.memory.now c.args.list c.requires.inside quiet.0 quiet.1
