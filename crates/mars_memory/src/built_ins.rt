@@ -11,6 +11,7 @@ use mars_dif::Dif;
 use mars_goals::GoalList;
 use mars_machine::BuiltIn;
 use mars_store::NodeId;
+use mars_tree::Label;
 use mars_unify::Unified;
 use std::alloc::Global;
 
@@ -69,7 +70,7 @@ fn call_val(
     let value = memory.argument(node, 1);
     match memory.number_at(alloc, expression)? {
         Some(number) => {
-            let integer = memory.integer(number)?;
+            let integer = memory.leaf(Label::Int(number))?;
             make_equal(alloc, memory, value, integer, rest)
         }
         None => Ok(None),

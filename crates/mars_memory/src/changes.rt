@@ -1,7 +1,8 @@
 //! What calls of built-ins ask of a memory, and change in it.
 ghost use Rattle.std.specs.Prelude.{◌≡◌, ℕ, ◌<◌, ◌∷◌, [], List, Some, ◌++◌, length, slice_get, IfOk, OnOk, OnErr, MatchOption};
-ghost use Rattle.mars_tree.specs.declared.label.Label.TheVariants.{Int, Str};
+ghost use Rattle.mars_tree.specs.declared.label.Label.TheVariants.{Str};
 ghost use Rattle.mars_tree.specs.declared.label.NameId.{NameId};
+ghost use Rattle.mars_tree.specs.Label.{arity_of};
 ghost use Rattle.mars_tree.specs.Graph.{kids_of, labelled};
 ghost use Rattle.mars_store.specs.System.{IsSystem, resolve, with_node};
 ghost use Rattle.mars_unify.specs.Unified.{OnYes, OnNo, IsSolved, Extends, AreApart};
@@ -85,12 +86,13 @@ impl Memory {
         eval(alloc, &self.store, node)
     }
 
-    /// Adds a node with an integer. Constant.
-    pub(crate) fn integer(&mut self, value: i64) -> Result<NodeId, NoMemory>
+    /// Adds a node with a label that has no kids. Constant.
+    pub(crate) fn leaf(&mut self, label: Label) -> Result<NodeId, NoMemory>
+        requires { arity_of label ≡ 0 }
         ensures node { IfOk result (λ node. node ≡ length self.old.system.nodes) }
-        ensures ok { OnOk result (self.new ≡ record self.old { system = with_node self.old.system (labelled (Int value) []) }) }
+        ensures ok { OnOk result (self.new ≡ record self.old { system = with_node self.old.system (labelled label []) }) }
     {
-        self.store.add(Label::Int(value), &[])
+        self.store.add(label, &[])
     }
 
     /// Makes two nodes equal: what `unify` takes.
