@@ -27,7 +27,8 @@ pub fn tell_tree(
     requires label { IsCallOf memory.now node Out }
     ensures { IfOk result (λ canon. IsToldTree memory.now node rest canon) }
 {
-    Err(NoMemory)
+    let kid = memory.argument(node, 0);
+    memory.tree_at(alloc, kid)
 }
 
 /// The string that the argument of a call of `outm` is, `None` exactly where it is none.
@@ -36,7 +37,8 @@ pub fn tell_text(memory: &Memory, node: NodeId, rest: GoalList) -> Result<Option
     requires label { IsCallOf memory.now node OutText }
     ensures { IfOk result (λ string. IsToldText memory.now node rest string) }
 {
-    Err(NoMemory)
+    let kid = memory.argument(node, 0);
+    Ok(memory.string_at(kid))
 }
 
 /// The answer that a memory holds, of an ask with variables at these nodes.
@@ -45,5 +47,6 @@ pub fn tell_answer(alloc: Global, memory: &mut Memory, asked: &[NodeId]) -> Resu
     ensures answer { IfOk result (λ answer. IsToldAnswer memory.old asked.now answer) }
     ensures later { IsLaterMemory memory.old memory.new }
 {
-    Err(NoMemory)
+    let _fine = memory.look_again()?;
+    memory.answer_at(alloc, asked)
 }
