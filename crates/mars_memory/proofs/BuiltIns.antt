@@ -40,7 +40,7 @@ use Rattle.mars_memory.specs.Holding.{DenoteGoals, Writes, Holds}
 use Rattle.mars_memory.specs.Holding.DenoteGoals.{calls}
 use Rattle.mars_memory.specs.Found.{HoldsCall, HasCall, IsCallOf, HoldsBuiltInChild, IsDone}
 use Rattle.mars_memory.proofs.Marks.{later-memory}
-use Rattle.mars_memory.proofs.Calls.{held-call, held-argument, gone-on}
+use Rattle.mars_memory.proofs.Calls.{put-goals, held-call, held-argument, gone-on}
 
 -- the kid at a place of a call
 abbrev pub kid_is : MemoryParts → ℕ → ℕ → ℕ → Type 0
@@ -129,52 +129,6 @@ module _ (m : MemoryParts) (node rest left right : ℕ) (label : Label) (is : la
 abbrev pub with_list : MemoryParts → List Pending → MemoryParts
 with_list m goals = record m { lists = m.lists ++ goals ∷ [] }
 
--- goals that were written are so whatever goal lists there are
-pub written-anywhere : (asked : List ℕ) (m : MemoryParts) (lists : List (List Pending)) (groups : List (List Alternative)) (goals : List Pending) (alternative : Alternative)
-    → Holds asked m groups goals alternative → Holds asked (record m { lists = lists }) groups goals alternative
-written-anywhere asked m lists groups goals alternative h = let w = h.writes in record {
-  writes = record {
-    sound = w.sound;
-    vars = w.vars;
-    represents = w.represents;
-    scoped = w.scoped;
-    asked_are = w.asked_are;
-    asked_use = w.asked_use;
-    added = w.added;
-    keeper = w.keeper;
-    differ = w.differ;
-    differ_use = w.differ_use;
-    can_wake = w.can_wake;
-    frozen = w.frozen;
-    frozen_use = w.frozen_use;
-    goals_are = w.goals_are;
-  };
-  solvable = h.solvable;
-}
-
--- the alternative has these goals instead, which are denoted
-pub with-goals : (asked : List ℕ) (m : MemoryParts) (groups : List (List Alternative)) (goals new : List Pending) (alternative : Alternative) (opened : List OpenGoal) (h : Holds asked m groups goals alternative)
-    → DenoteGoals alternative.equations m.system (h.writes.vars) groups (length groups) new opened → Holds asked m groups new (record alternative { goals = opened })
-with-goals asked m groups goals new alternative opened h are = let w = h.writes in record {
-  writes = record {
-    sound = w.sound;
-    vars = w.vars;
-    represents = w.represents;
-    scoped = w.scoped;
-    asked_are = w.asked_are;
-    asked_use = w.asked_use;
-    added = w.added;
-    keeper = w.keeper;
-    differ = w.differ;
-    differ_use = w.differ_use;
-    can_wake = w.can_wake;
-    frozen = w.frozen;
-    frozen_use = w.frozen_use;
-    goals_are = are;
-  };
-  solvable = h.solvable;
-}
-
 -- with a list more the others are as before
 pub later-list : (m : MemoryParts) (goals : List Pending) → IsLaterMemory m (with_list m goals)
 later-list m goals = record {
@@ -203,8 +157,7 @@ module _ (m : MemoryParts) (node rest left right : ℕ) (has : HasCall m node re
           child = record parent { goals = Call (Part call 1) ∷ others };
           is_child = called (known-first m node rest left (built_in_label Freeze) is at_left asked groups parent call others h own root);
           holds = subst (λ goals. Holds asked (with_list m new) groups goals (record parent { goals = Call (Part call 1) ∷ others })) (sym (ap (list_at (m.lists ++ new ∷ [])) e ∙ list-last m.lists new))
-              (written-anywhere asked m (m.lists ++ new ∷ []) groups new (record parent { goals = Call (Part call 1) ∷ others })
-              (with-goals asked m groups (pending.Call node ∷ list_at m.lists rest) new parent (Call (Part call 1) ∷ others) h.holds (calls both.second d.uses d.others_are)));
+              (put-goals asked m groups (pending.Call node ∷ list_at m.lists rest) parent h.holds (m.lists ++ new ∷ []) new (Call (Part call 1) ∷ others) (calls both.second d.uses d.others_are));
         },
   )
 

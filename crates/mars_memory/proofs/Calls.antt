@@ -32,6 +32,30 @@ call-denoted : (e : Equations) (system : System) (vars : List ℕ) (groups : Lis
     → DenoteGoals e system vars groups limit (pending.Call node ∷ more) (Call call ∷ others) → IsCallDenoted e system vars groups limit node more call others
 call-denoted e system vars groups limit node more call others (calls d u rest) = record { call_is = d; uses = u; others_are = rest }
 
+-- an alternative that is held is so with other goals, which are denoted, whatever goal lists there are
+abbrev pub put-goals : (asked : List ℕ) (m : MemoryParts) (groups : List (List Alternative)) (goals : List Pending) (a : Alternative) (h : Holds asked m groups goals a)
+    → (lists : List (List Pending)) (new : List Pending) (opens : List OpenGoal) → DenoteGoals a.equations m.system (h.writes.vars) groups (length groups) new opens
+    → Holds asked (record m { lists = lists }) groups new (record a { goals = opens })
+put-goals asked m groups goals a h lists new opens are = let w = h.writes in record {
+  writes = record {
+    sound = w.sound;
+    vars = w.vars;
+    represents = w.represents;
+    scoped = w.scoped;
+    asked_are = w.asked_are;
+    asked_use = w.asked_use;
+    added = w.added;
+    keeper = w.keeper;
+    differ = w.differ;
+    differ_use = w.differ_use;
+    can_wake = w.can_wake;
+    frozen = w.frozen;
+    frozen_use = w.frozen_use;
+    goals_are = are;
+  };
+  solvable = h.solvable;
+}
+
 module _ (asked : List ℕ) (m : MemoryParts) (groups : List (List Alternative)) (node rest : ℕ) (parent : Alternative) (call : Subject) (others : List OpenGoal)
     (h : HoldsCall asked m groups node rest parent call others) where
   pub held-call : IsCallDenoted parent.equations m.system (h.holds.writes.vars) groups (length groups) node (list_at m.lists rest) call others
@@ -46,25 +70,7 @@ module _ (asked : List ℕ) (m : MemoryParts) (groups : List (List Alternative))
 
   -- the call is done, and nothing else changed
   abbrev pub gone-on : Holds asked m groups (list_at m.lists rest) (record parent { goals = others })
-  gone-on = let w = h.holds.writes in record {
-    writes = record {
-      sound = w.sound;
-      vars = w.vars;
-      represents = w.represents;
-      scoped = w.scoped;
-      asked_are = w.asked_are;
-      asked_use = w.asked_use;
-      added = w.added;
-      keeper = w.keeper;
-      differ = w.differ;
-      differ_use = w.differ_use;
-      can_wake = w.can_wake;
-      frozen = w.frozen;
-      frozen_use = w.frozen_use;
-      goals_are = held-call.others_are;
-    };
-    solvable = h.holds.solvable;
-  }
+  gone-on = put-goals asked m groups (pending.Call node ∷ list_at m.lists rest) parent h.holds m.lists (list_at m.lists rest) others held-call.others_are
 
 -- a call is a node of the memory, and the list after it one of its lists
 pub call-inside : (m : MemoryParts) (node rest : ℕ) → HasCall m node rest → node < length m.system.nodes
