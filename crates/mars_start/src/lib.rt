@@ -1,0 +1,4 @@
+//! How an ask begins in a store: its kept trees, its variables and its goals as nodes.
+#![tactic(auto)]
+
+mod loading;
