@@ -1,3 +1,6 @@
 mod Growing
 mod LoadedTrees
 mod LoadedSteps
+mod WrittenTerms
+mod WrittenRows
+mod WrittenGoals

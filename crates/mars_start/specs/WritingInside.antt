@@ -52,6 +52,14 @@ pub record AreTermsWritten (old new : System) (vars kept : List ℕ) (terms : Li
   pub more : HasMoreNodes old new
   pub shows : AllPaired (ShowsTerm new vars kept) terms nodes
 
+-- what is left of a row of dots, and a term that ends it
+pub record IsRowLeft (s : System) (vars kept : List ℕ) (terms : List Term) (term : Term) (firsts : List ℕ) (last : ℕ) : Type 0 where
+  pub rest : List Term
+  pub whole : Term
+  pub firsts_are : AllPaired (ShowsTerm s vars kept) rest firsts
+  pub last_is : ShowsTerm s vars kept whole last
+  pub row : dots rest whole ≡ dots terms term
+
 -- a row of dots was written: whatever terms the first nodes have, and whatever the last one
 pub record IsRowWritten (old new : System) (firsts : List ℕ) (last n : ℕ) : Type 0 where
   pub more : HasMoreNodes old new
