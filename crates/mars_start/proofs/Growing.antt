@@ -1,5 +1,5 @@
 -- What holds of nodes still holds after others were added.
-use Rattle.std.proofs.Common.{◌≡◌, ℕ, ◌<◌, ◌≤◌, List, [], ◌∷◌, length, slice_get, Option, Some, None, option_and_then, All, refl, sym, ap, ◌∙◌, subst, arith}
+use Rattle.std.proofs.Common.{◌≡◌, ℕ, ◌<◌, List, length, slice_get, Option, Some, None, option_and_then, All, refl, sym, ap, ◌∙◌, subst, arith}
 use Rattle.std.proofs.lemmas.List.Elements.{All-weaker, All-get_or}
 use Rattle.std.proofs.lemmas.Option.{slice_get_within, get_or_from_slice_get}
 use Rattle.mars_tree.specs.Graph.{Node, IsNode}
@@ -14,7 +14,6 @@ use Rattle.mars_rules.specs.PairedLists.{AllPaired}
 use Rattle.mars_rules.specs.TermTrees.{tree_of_term}
 use Rattle.mars_rules.proofs.Copies.{continues-refl, continues-trans}
 use Rattle.mars_rules.proofs.Paired.{paired-weaker}
-use Rattle.mars_bridge.specs.Scoped.{GoesOn}
 use Rattle.mars_start.specs.LoadingInside.{HasTree}
 use Rattle.mars_start.specs.WritingInside.{HasMoreNodes, HasNames, trees_among, ShowsTerm}
 

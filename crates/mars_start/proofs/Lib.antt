@@ -4,3 +4,5 @@ mod LoadedSteps
 mod WrittenTerms
 mod WrittenRows
 mod WrittenGoals
+mod AskParts
+mod Beginning

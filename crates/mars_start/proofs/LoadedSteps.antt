@@ -1,11 +1,11 @@
 -- What the calls that load a tree ask for.
-use Rattle.std.proofs.Common.{◌≡◌, ◌≢◌, ℕ, zero, suc, ◌+◌, ◌<◌, ◌≤◌, List, [], ◌∷◌, ◌++◌, length, map, take, take-suc, get_or, slice_get, slice_index, Some, None, All, refl, sym, ap, ◌∙◌, subst, arith}
+use Rattle.std.proofs.Common.{◌≡◌, ◌≢◌, ℕ, suc, ◌+◌, ◌<◌, List, [], ◌∷◌, ◌++◌, length, map, take, take-suc, get_or, slice_get, slice_index, Some, None, sym, ap, ◌∙◌, subst, arith}
 use Rattle.std.specs.List.{range_with_len}
 use Rattle.std.proofs.lemmas.List.{get_or_append_left, get_or_default, map-append}
 use Rattle.std.proofs.lemmas.List.Elements.{All-get_or, All-weaker}
 use Rattle.std.proofs.lemmas.Option.{slice_get_within, get_or_from_slice_get}
 use Rattle.mars_tree.specs.declared.label.Label.{Label}
-use Rattle.mars_tree.specs.Graph.{Node, IsGraph, label_of, kids_of, free_leaf, labelled}
+use Rattle.mars_tree.specs.Graph.{Node, label_of, kids_of, free_leaf, labelled}
 use Rattle.mars_store.specs.System.{System, IsSystem, IsLink, IsUnbound, resolve, linked, with_node}
 use Rattle.mars_store.proofs.CallerLemmas.{resolve-unbound}
 use Rattle.mars_rules.proofs.CopyingSteps.{range-more}

@@ -1,21 +1,19 @@
 -- Kept trees, as they are loaded.
-use Rattle.std.proofs.Common.{◌≡◌, ◌≢◌, ◌⊎◌, ℕ, zero, suc, ◌+◌, ◌<◌, ◌≤◌, List, [], ◌∷◌, ◌++◌, length, length-append, map, take, get_or, slice_get, slice_index, Option, Some, None, option_and_then, All, refl, sym, ap, ◌∙◌, subst, arith, inl, inr, add-one}
+use Rattle.std.proofs.Common.{◌≡◌, ◌≢◌, ◌⊎◌, ℕ, zero, suc, ◌+◌, ◌<◌, ◌≤◌, List, [], ◌∷◌, ◌++◌, length, length-append, map, take, get_or, slice_get, slice_index, Some, None, option_and_then, All, refl, sym, ap, ◌∙◌, subst, arith, inl, inr, add-one}
 use Rattle.std.specs.List.{range_with_len}
-use Rattle.std.proofs.lemmas.Bool.{cases_lt, cases_eq, lt-ltb}
-use Rattle.std.proofs.lemmas.List.{length-map, get_or_append_left, get_or_at, get_or_past}
+use Rattle.std.proofs.lemmas.Bool.{cases_lt, lt-ltb}
+use Rattle.std.proofs.lemmas.List.{length-map, get_or_append_left, get_or_at}
 use Rattle.std.proofs.lemmas.List.Elements.{All-get_or, All-map, All-weaker, All-push, All-head, All-tail}
 use Rattle.std.proofs.lemmas.List.FromFn.{length-range_with_len, get_or-range_with_len}
-use Rattle.std.proofs.lemmas.Option.{slice_get-map, slice_get_within, get_or_from_slice_get, slice_get-get_or}
 use Rattle.mars_tree.specs.declared.label.Label.{Label}
-use Rattle.mars_tree.specs.Label.{arity_of}
-use Rattle.mars_tree.specs.Graph.{Node, Shown, IsNode, IsGraph, IsGround, arity_at, label_of, kids_of, free_leaf, at}
-use Rattle.mars_store.specs.Valuation.{Valuation, value, Agree}
-use Rattle.mars_store.specs.System.{System, IsSystem, IsLink, IsUnbound, Grows, rank, rank_of, resolve, linked, equation_of, with_node}
+use Rattle.mars_tree.specs.Graph.{Node, IsNode, IsGraph, IsGround, label_of, kids_of, free_leaf, at}
+use Rattle.mars_store.specs.Valuation.{Valuation, value}
+use Rattle.mars_store.specs.System.{System, IsSystem, IsLink, IsUnbound, Grows, rank, rank_of, equation_of, with_node}
 use Rattle.mars_store.specs.Solutions.{InSol, over}
 use Rattle.mars_store.specs.Growing.{cut}
-use Rattle.mars_store.proofs.CallerLemmas.{grows-refl, grows-trans, grows-node, grows-linked, system-node, leaf_node, resolve-unbound, older-value, restricted, over-same, front-node, equation_solved, at-labelled, label-within, cases-label}
+use Rattle.mars_store.proofs.CallerLemmas.{grows-refl, grows-trans, grows-node, grows-linked, system-node, leaf_node, older-value, restricted, over-same, equation_solved, at-labelled, cases-label}
 use Rattle.mars_rules.proofs.Paired.{paired-step}
-use Rattle.mars_rules.proofs.CopyingSteps.{range-inside, range-more}
+use Rattle.mars_rules.proofs.CopyingSteps.{range-inside}
 use Rattle.mars_start.specs.LoadingInside.{with_frees, node_among, with_value, ShowsNode, IsFreeNode, AreNodesLoaded, HasTree, IsTreeLoaded, AreTreesLoaded}
 use Rattle.mars_start.proofs.Growing.{inside-grows, trees-grow}
 

@@ -1,7 +1,7 @@
 -- Goals, as they are written from the last one on.
-use Rattle.std.proofs.Common.{◌≡◌, ℕ, zero, suc, ◌+◌, ◌-◌, ◌<◌, ◌≤◌, List, [], ◌∷◌, ◌++◌, length, length-append, drop, drop-cons, get_or, refl, sym, ap, ◌∙◌, subst, arith}
+use Rattle.std.proofs.Common.{◌≡◌, ℕ, suc, ◌+◌, ◌-◌, ◌<◌, ◌≤◌, List, [], ◌∷◌, ◌++◌, length, length-append, drop, drop-cons, get_or, sym, ap, ◌∙◌, subst, arith}
 use Rattle.std.proofs.lemmas.List.{get_or_at, drop_all}
-use Rattle.mars_store.specs.System.{System, IsSystem}
+use Rattle.mars_store.specs.System.{System}
 use Rattle.mars_term.specs.declared.clause.Goal.{Goal}
 use Rattle.mars_term.specs.declared.clause.Goal.TheVariants as goal
 use Rattle.mars_rules.specs.PairedLists.{AllPaired}

@@ -1,16 +1,16 @@
 -- Rows of dots, as they are written from the last dot up.
-use Rattle.std.proofs.Common.{◌≡◌, ℕ, suc, ◌+◌, ◌<◌, ◌≤◌, List, [], ◌∷◌, ◌++◌, length, length-append, Some, All, refl, sym, ap, ◌∙◌, subst, arith}
+use Rattle.std.proofs.Common.{◌≡◌, ℕ, ◌<◌, List, [], ◌∷◌, ◌++◌, length, length-append, Some, All, refl, sym, ap, ◌∙◌, subst, arith}
 use Rattle.std.proofs.lemmas.List.Elements.{All-cons, All-nil, All-pop}
 use Rattle.mars_tree.specs.declared.label.Label.TheVariants as label
-use Rattle.mars_tree.specs.Graph.{IsNode, labelled}
-use Rattle.mars_store.specs.System.{System, IsSystem, with_node}
+use Rattle.mars_tree.specs.Graph.{labelled}
+use Rattle.mars_store.specs.System.{System, with_node}
 use Rattle.mars_term.specs.declared.term.Term.{Term, Dot}
 use Rattle.mars_term.specs.Rows.{dots}
 use Rattle.mars_term.proofs.RowLemmas.{dots-push}
 use Rattle.mars_rules.specs.PairedLists.{AllPaired}
 use Rattle.mars_rules.proofs.TermFacts.{label-Dot, arguments-Dot}
 use Rattle.mars_start.specs.WritingInside.{HasNames, HasMoreNodes, ShowsTerm, IsTermWritten, AreTermsWritten, IsRowLeft, IsRowWritten}
-use Rattle.mars_start.proofs.Growing.{inside-grows, more-refl, more-trans, more-node, names-grow, terms-grow, term-grows}
+use Rattle.mars_start.proofs.Growing.{inside-grows, more-trans, more-node, names-grow, terms-grow}
 use Rattle.mars_start.proofs.WrittenTerms.{label-written}
 
 -- paired lists, of which one ends with an item

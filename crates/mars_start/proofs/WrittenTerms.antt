@@ -1,28 +1,27 @@
 -- Terms, as they are written.
-use Rattle.std.proofs.Common.{◌≡◌, ℕ, ℤ, zero, suc, ◌+◌, ◌<◌, ◌≤◌, ◌^◌, List, [], ◌∷◌, ◌++◌, length, take, length-append, get_or, slice_get, Option, Some, None, Result, Ok, Err, option_and_then, All, refl, sym, ap, ◌∙◌, subst, arith}
+use Rattle.std.proofs.Common.{◌≡◌, ℕ, ℤ, zero, suc, ◌+◌, ◌<◌, ◌≤◌, ◌^◌, List, [], ◌∷◌, ◌++◌, length, take, length-append, get_or, slice_get, Some, Result, Ok, Err, option_and_then, All, refl, sym, ap, ◌∙◌, subst, arith}
 use Rattle.std.specs.Result.{IfOk}
-use Rattle.std.proofs.lemmas.List.{get_or_at, get_or_default, take_all}
+use Rattle.std.proofs.lemmas.List.{get_or_at, get_or_default}
 use Rattle.std.proofs.lemmas.List.Elements.{All-cons, All-nil, All-head, All-get_or}
 use Rattle.std.proofs.lemmas.Option.{slice_get-get_or}
 use Rattle.mars_tree.specs.declared.label.Label.{Label}
 use Rattle.mars_tree.specs.declared.label.Label.TheVariants as label
 use Rattle.mars_tree.specs.declared.label.NameId.{NameId}
 use Rattle.mars_tree.specs.Label.{arity_of}
-use Rattle.mars_tree.specs.Graph.{Node, Shown, IsNode, label_of, kids_of, free_leaf, labelled}
+use Rattle.mars_tree.specs.Graph.{Node, IsNode, free_leaf, labelled}
 use Rattle.mars_store.specs.Valuation.{Valuation, value}
-use Rattle.mars_store.specs.System.{System, IsSystem, with_node}
+use Rattle.mars_store.specs.System.{System, with_node}
 use Rattle.mars_store.specs.Solutions.{InSol, over}
-use Rattle.mars_term.specs.declared.term.Term.{Term, Var, Int, Name, Tup, Dot, Kept, Str}
+use Rattle.mars_term.specs.declared.term.Term.{Term, Var, Int, Name, Tup, Kept, Str}
 use Rattle.mars_term.specs.declared.term.Term.TheViews.{outs-Var, outs-Kept}
-use Rattle.mars_term.specs.Parts.{parts_of, number_of_var, number_of_kept, HasShortList}
-use Rattle.mars_matching.specs.Trees.{Trees}
+use Rattle.mars_term.specs.Parts.{parts_of, HasShortList}
 use Rattle.mars_rules.specs.PairedLists.{AllPaired}
 use Rattle.mars_rules.specs.TermTrees.{label_of_term, arguments_of, own_tree, tree_of_term}
 use Rattle.mars_rules.proofs.Paired.{paired-size, paired-step, paired-push, paired-all}
 use Rattle.mars_rules.proofs.RuleParts.{own-part, short-name, short-tuple}
-use Rattle.mars_rules.proofs.TermFacts.{label-Int, label-Name, label-Tup, label-Dot, label-Str, arguments-Int, arguments-Name, arguments-Tup, arguments-Dot, arguments-Str}
+use Rattle.mars_rules.proofs.TermFacts.{label-Int, label-Name, label-Tup, label-Str, arguments-Int, arguments-Name, arguments-Tup, arguments-Str}
 use Rattle.mars_start.specs.WritingInside.{IsAskPart, HasNames, HasMoreNodes, trees_among, ShowsTerm, IsTermWritten, AreTermsWritten}
-use Rattle.mars_start.proofs.Growing.{more-refl, more-trans, more-node, names-grow, term-grows, terms-grow}
+use Rattle.mars_start.proofs.Growing.{more-refl, more-trans, more-node, names-grow, terms-grow}
 
 -- nodes of terms are nodes of the store
 pub shown-inside : (s : System) (vars kept : List ℕ) (terms : List Term) (nodes : List ℕ) → AllPaired (ShowsTerm s vars kept) terms nodes → All (λ n. n < length s.nodes) nodes

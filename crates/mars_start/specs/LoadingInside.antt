@@ -1,6 +1,6 @@
 -- Inside: kept trees in a store. For each node of a tree there is a variable, which is bound to the node's label over the
 -- variables of its kids.
-use Rattle.std.specs.Prelude.{◌≡◌, ◌≢◌, ℕ, zero, suc, ◌+◌, ◌<◌, ◌≤◌, List, length, map, slice_index, slice_index_or, Some, None, All}
+use Rattle.std.specs.Prelude.{◌≡◌, ◌≢◌, ℕ, zero, suc, ◌<◌, ◌≤◌, List, length, map, slice_index, Some, None, All}
 use Rattle.mars_tree.specs.declared.label.Label.{Label}
 use Rattle.mars_tree.specs.Graph.{Node, label_of, kids_of, free_leaf, at}
 use Rattle.mars_store.specs.Valuation.{Valuation, value}

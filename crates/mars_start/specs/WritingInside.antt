@@ -1,5 +1,5 @@
 -- Inside: the terms of an ask in a store, over nodes of its variables and of its kept names.
-use Rattle.std.specs.Prelude.{◌≡◌, ℕ, ◌<◌, List, ◌∷◌, length, slice_get, slice_index_or, All, option_and_then}
+use Rattle.std.specs.Prelude.{◌≡◌, ℕ, ◌<◌, List, length, slice_get, All, option_and_then}
 use Rattle.mars_store.specs.Valuation.{Valuation, value}
 use Rattle.mars_store.specs.System.{System, IsSystem}
 use Rattle.mars_store.specs.Solutions.{InSol}

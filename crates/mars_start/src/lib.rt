@@ -2,4 +2,7 @@
 #![tactic(auto)]
 
 mod loading;
+mod starting;
 mod writing;
+
+pub use starting::{Started, start_ask};

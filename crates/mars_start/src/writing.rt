@@ -135,11 +135,7 @@ fn write_dots(
 }
 
 /// Adds a dot for each of these nodes, from the last one up, and gives the node of the whole row.
-fn write_row(
-    store: &mut Store,
-    mut firsts: Vec<NodeId>,
-    last: NodeId,
-) -> Result<NodeId, NoMemory>
+fn write_row(store: &mut Store, mut firsts: Vec<NodeId>, last: NodeId) -> Result<NodeId, NoMemory>
     requires sound { IsSystem store.old }
     requires first { All (λ node. node < length store.old.nodes) firsts.items }
     requires last { last < length store.old.nodes }

@@ -1,4 +1,4 @@
-use Rattle.std.proofs.Common.{◌≡◌, ◌<◌, length, map, slice_index, All, sym, ap, ◌∙◌, subst, refl}
+use Rattle.std.proofs.Common.{◌<◌, length, map, slice_index, All, sym, ◌∙◌, subst, refl}
 use Rattle.std.proofs.lemmas.Result.{on_ok_weaker}
 use Rattle.mars_tree.specs.Graph.{kids_of, labelled}
 use Rattle.mars_start.proofs.LoadedTrees.{node-is}

@@ -1,4 +1,4 @@
-use Rattle.std.proofs.Common.{subst, take}
+use Rattle.std.proofs.Common.{subst}
 use Rattle.mars_start.specs.LoadingInside.{IsTreeLoaded}
 use Rattle.mars_start.proofs.LoadedTrees.{trees-next}
 use Rattle.mars_start.proofs.loading.load_trees.Goals as goal

@@ -1,4 +1,4 @@
-use Rattle.std.proofs.Common.{◌≡◌, ◌<◌, ◌^◌, ◌++◌, ◌∷◌, [], List, length, take, get_or, rules, subst, refl, sym, ap, ◌∙◌, arith, All, Some}
+use Rattle.std.proofs.Common.{◌<◌, ◌^◌, ◌++◌, ◌∷◌, [], length, rules, subst, refl, sym, ap, ◌∙◌, arith, All}
 use Rattle.std.specs.List.{flat_map}
 use Rattle.std.proofs.lemmas.Result.{IfOk-weaker}
 use Rattle.mars_term.specs.declared.term.Term.{Term, Dot, the_lemmas}
@@ -37,14 +37,24 @@ write_term-write_dots-requires t c =
 pub write_term-overflow_cast-label : goal.write_term-overflow_cast-label
 write_term-overflow_cast-label t c =
     let few : length c.in-Name.terms < 2 ^ 32 = name-fits (length c.args.vars.now) (length c.args.kept.now) c.args.term.now c.in-Name.name c.in-Name.terms c.in-Name.is c.requires.parts in
-    omega (arith, few, c.len.ensures, ap length c.as_slice.ensures,
-    paired-size (ShowsTerm c.write_terms.new.store c.args.vars.now c.args.kept.now) c.as_slice.result.now c.in_ok-kids-in-Name.kids.items c.in_ok-kids-in-Name.ensures.shows)
+    omega (
+      arith,
+      few,
+      c.len.ensures,
+      ap length c.as_slice.ensures,
+      paired-size (ShowsTerm c.write_terms.new.store c.args.vars.now c.args.kept.now) c.as_slice.result.now c.in_ok-kids-in-Name.kids.items c.in_ok-kids-in-Name.ensures.shows,
+    )
 
 pub write_term-overflow_cast-len : goal.write_term-overflow_cast-len
 write_term-overflow_cast-len t c =
     let few : length c.in-Tup.terms < 2 ^ 32 = tuple-fits (length c.args.vars.now) (length c.args.kept.now) c.args.term.now c.in-Tup.terms c.in-Tup.is c.requires.parts in
-    omega (arith, few, c.len-in-Tup.ensures, ap length c.as_slice-in-Tup.ensures,
-    paired-size (ShowsTerm c.write_terms-in-Tup.new.store c.args.vars.now c.args.kept.now) c.as_slice-in-Tup.result.now c.in_ok-kids-in-Tup.kids.items c.in_ok-kids-in-Tup.ensures.shows)
+    omega (
+      arith,
+      few,
+      c.len-in-Tup.ensures,
+      ap length c.as_slice-in-Tup.ensures,
+      paired-size (ShowsTerm c.write_terms-in-Tup.new.store c.args.vars.now c.args.kept.now) c.as_slice-in-Tup.result.now c.in_ok-kids-in-Tup.kids.items c.in_ok-kids-in-Tup.ensures.shows,
+    )
 
 pub write_term-add-requires-in-Name-clause-inside : goal.write_term-add-requires-in-Name-clause-inside
 write_term-add-requires-in-Name-clause-inside t c =
