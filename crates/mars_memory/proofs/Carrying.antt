@@ -58,7 +58,7 @@ keep_all e f s t vars all next keep (n ∷ nodes) (x ∷ subjects) uses h =
     (keep n x (All-head (UsesBelow next) x subjects uses) h.0, keep_all e f s t vars all next keep nodes subjects (All-tail (UsesBelow next) x subjects uses) h.1)
 
 -- pairs use more variables
-pairs-more : (next more : ℕ) → next ≤ more → (pairs : List (Subject × Subject)) → All (PairUsesBelow next) pairs → All (PairUsesBelow more) pairs
+pub pairs-more : (next more : ℕ) → next ≤ more → (pairs : List (Subject × Subject)) → All (PairUsesBelow next) pairs → All (PairUsesBelow more) pairs
 pairs-more next more few pairs uses =
     All-weaker (PairUsesBelow next) (PairUsesBelow more) (λ pair p. record { left = uses_more next more few pair.0 p.left; right = uses_more next more few pair.1 p.right }) pairs uses
 
@@ -72,7 +72,7 @@ module _ (old new : MemoryParts) (e f : Equations) (vars all : List ℕ) (c : Ca
   keep_goals groups limit goals opens (cuts {depth = depth} {more = more} {goals = others} few is rest) = cuts few is (keep_goals groups depth more others rest)
 
 -- an alternative with the new equations and new goals
-pub carried : (asked : List ℕ) (old new : MemoryParts) (groups : List (List Alternative)) (goals now : List Pending) (a : Alternative) (w : Writes asked old groups goals a)
+unfoldable pub carried : (asked : List ℕ) (old new : MemoryParts) (groups : List (List Alternative)) (goals now : List Pending) (a : Alternative) (w : Writes asked old groups goals a)
     → (f : Equations) (all : List ℕ) → Carries old new a.equations f w.vars all → (opens : List OpenGoal) → DenoteGoals f new.system all groups (length groups) now opens
     → Writes asked new groups now (record a { goals = opens; equations = f })
 carried asked old new groups goals now a w f all c opens d =

@@ -1,3 +1,6 @@
+pub mod BuiltIns
+pub mod Calls
+pub mod Equalled
 pub mod Marks
 pub mod Pushing
 pub mod Settled

@@ -25,7 +25,7 @@ pushed_more old mid new goals goal rest list next p at is =
       more = omega (arith, long, p.more);
       front = ap (take (length old)) is ∙ take-append-le (length old) mid ((goal ∷ list_at mid list) ∷ []) p.more ∙ p.front;
       inside = omega (arith, long, at);
-      list_is = ap (λ lists. list_at lists next) is ∙ get_or_at mid (goal ∷ list_at mid list) [] [] next at ∙ ap (λ xs. goal ∷ xs) p.list_is;
+      list_is = ap (λ lists. list_at lists next) is ∙ get_or_at mid (goal ∷ list_at mid list) [] [] next (sym at) ∙ ap (λ xs. goal ∷ xs) p.list_is;
     }
 
 -- what is made of the items from a place on, with that at the place

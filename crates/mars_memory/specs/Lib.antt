@@ -5,5 +5,6 @@ pub mod Found
 -- Laws: marks of a memory.
 pub mod MemoryLaws
 -- Inside: the code's own steps, promised to nobody.
+pub mod BuiltInsInside
 pub mod ListsInside
 pub mod TakingInside
