@@ -1,29 +1,27 @@
 -- Built-ins that change no equation: which alternative is held after a call of one.
-use Rattle.std.proofs.Common.{◌≡◌, ◌≢◌, ℕ, ◌<◌, ◌≤◌, List, [], ◌∷◌, ◌++◌, length, take, slice_get, All, Some, None, refl, sym, ap, ◌∙◌, subst, arith, length-append}
-use Rattle.std.proofs.lemmas.Option.{none-some, same_Some}
+use Rattle.std.proofs.Common.{◌≡◌, ◌≢◌, ℕ, ◌<◌, List, [], ◌∷◌, ◌++◌, length, slice_get, All, Some, None, refl, sym, ap, ◌∙◌, subst, arith, length-append}
+use Rattle.std.proofs.lemmas.Option.{none-some}
 use Rattle.std.proofs.Math.Seq.{get_or-append_seam}
 use Rattle.std.proofs.lemmas.List.{take-append-le, take_all}
-use Rattle.std.proofs.lemmas.List.Elements.{All-push, All-nil, All-cons, All-contains, Contains-push, All-weaker}
+use Rattle.std.proofs.lemmas.List.Elements.{All-push, All-nil, All-cons, All-contains, Contains-push}
 use Rattle.mars_tree.specs.declared.label.Label.{Label}
 use Rattle.mars_tree.specs.declared.label.Label.TheVariants.{Str}
 use Rattle.mars_tree.specs.declared.label.NameId.{NameId}
 use Rattle.mars_tree.specs.Graph.{label_of, kids_of}
 use Rattle.mars_store.specs.System.{System, IsSystem, resolve}
-use Rattle.mars_store.specs.Laws.{IsImplied, IsSolvable}
+use Rattle.mars_store.specs.Laws.{IsImplied}
 use Rattle.mars_store.proofs.CallerLemmas.{grows-refl, difs_independent}
 use Rattle.mars_dif.specs.declared.dif.Dif.{Dif}
 use Rattle.mars_dif.specs.declared.dif.Dif.TheVariants as dif
-use Rattle.mars_dif.specs.Inside.{IsInside}
 use Rattle.mars_dif.specs.Told.{IsTold}
 use Rattle.mars_dif.specs.Kept.{Kept, IsCurrent, IsKeeper, IsAfter, with_dif}
 use Rattle.mars_dif.proofs.CallerLemmas.{keeper_current, after-same}
-use Rattle.mars_frozen.specs.Freezing.{FrozenPairs, with_frozen, waiting_pairs, IsLaterFrozen}
+use Rattle.mars_frozen.specs.Freezing.{with_frozen, waiting_pairs, IsLaterFrozen}
 use Rattle.mars_frozen.proofs.CallerLemmas.{frozen_adds, later-all}
 use Rattle.mars_rules.proofs.Paired.{paired-push}
 use Rattle.mars_goals.specs.GoalLists.{list_at}
 use Rattle.mars_goals.specs.declared.cells.Pending.{Pending}
 use Rattle.mars_goals.specs.declared.cells.Pending.TheVariants as pending
-use Rattle.mars_goals.proofs.CallerLemmas.{list_kept}
 use Rattle.mars_machine.specs.declared.built_in.BuiltIn.{BuiltIn}
 use Rattle.mars_machine.specs.declared.built_in.BuiltIn.TheVariants.{Dif as DifCall, Freeze, Bound, Free, Out, OutText}
 use Rattle.mars_machine.specs.Subjects.{Subject, Part}
@@ -31,14 +29,14 @@ use Rattle.mars_machine.specs.Equations.{Equations, AreSolvable, HaveOneTree, Fo
 use Rattle.mars_machine.specs.Alternatives.{OpenGoal, Call, Alternative}
 use Rattle.mars_machine.specs.BuiltIns.{IsBuiltInChild, built_in_label}
 use Rattle.mars_machine.specs.BuiltIns.IsBuiltInChild.{apart, called, frozen, bound, free, out, out_text}
-use Rattle.mars_bridge.specs.Represents.{Represents, Denotes, DenotePairs, DenotesPair}
-use Rattle.mars_bridge.specs.Scoped.{UsesBelow, PairUsesBelow}
+use Rattle.mars_bridge.specs.Represents.{Represents, DenotePairs, DenotesPair}
+use Rattle.mars_bridge.specs.Scoped.{PairUsesBelow}
 use Rattle.mars_bridge.proofs.Carried.{implied_iff, solvable_iff}
 use Rattle.mars_bridge.proofs.Parts.{root_iff}
 use Rattle.mars_memory.specs.Memory.{MemoryParts, root_of_node, IsLaterMemory}
-use Rattle.mars_memory.specs.Holding.{DenoteGoals, Writes, Holds}
+use Rattle.mars_memory.specs.Holding.{Holds}
 use Rattle.mars_memory.specs.Holding.DenoteGoals.{calls}
-use Rattle.mars_memory.specs.Found.{HoldsCall, HasCall, IsCallOf, HoldsBuiltInChild, IsDone}
+use Rattle.mars_memory.specs.Found.{HoldsCall, HasCall, IsCallOf, IsDone}
 use Rattle.mars_memory.proofs.Marks.{later-memory}
 use Rattle.mars_memory.proofs.Calls.{put-goals, held-call, held-argument, gone-on}
 

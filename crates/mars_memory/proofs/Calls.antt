@@ -1,24 +1,21 @@
 -- Calls that are held: their nodes and the nodes of their arguments, and what is held after them.
-use Rattle.std.proofs.Common.{◌≡◌, ℕ, ◌<◌, List, [], ◌∷◌, ◌++◌, length, slice_get, Some, ap, ◌∙◌, subst}
-use Rattle.std.proofs.lemmas.List.Elements.{All-nil, All-cons}
+use Rattle.std.proofs.Common.{◌≡◌, ℕ, ◌<◌, List, ◌∷◌, length, slice_get, Some, ap, ◌∙◌, subst}
 use Rattle.mars_tree.specs.declared.label.Label.{Label}
 use Rattle.mars_tree.specs.Graph.{label_of, kids_of, arity_at}
 use Rattle.mars_store.specs.System.{System, IsSystem, resolve}
-use Rattle.mars_store.proofs.CallerLemmas.{label-within}
-use Rattle.mars_dif.specs.Inside.{IsInside}
 use Rattle.mars_goals.specs.GoalLists.{list_at}
 use Rattle.mars_goals.specs.declared.cells.Pending.{Pending}
 use Rattle.mars_goals.specs.declared.cells.Pending.TheVariants as pending
 use Rattle.mars_machine.specs.declared.built_in.BuiltIn.{BuiltIn}
 use Rattle.mars_machine.specs.Subjects.{Subject, Part}
-use Rattle.mars_machine.specs.Equations.{Equations, AreSolvable, HaveOneTree}
+use Rattle.mars_machine.specs.Equations.{Equations}
 use Rattle.mars_machine.specs.Alternatives.{OpenGoal, Call, Alternative}
-use Rattle.mars_machine.specs.BuiltIns.{built_in_label, built_in_arity}
-use Rattle.mars_bridge.specs.Represents.{Denotes, DenotePairs}
+use Rattle.mars_machine.specs.BuiltIns.{built_in_arity}
+use Rattle.mars_bridge.specs.Represents.{Denotes}
 use Rattle.mars_bridge.specs.Scoped.{UsesBelow}
 use Rattle.mars_bridge.proofs.Parts.{part_denoted}
 use Rattle.mars_memory.specs.Memory.{MemoryParts}
-use Rattle.mars_memory.specs.Holding.{DenoteGoals, Writes, Holds}
+use Rattle.mars_memory.specs.Holding.{DenoteGoals, Holds}
 use Rattle.mars_memory.specs.Holding.DenoteGoals.{calls}
 use Rattle.mars_memory.specs.Found.{HoldsCall, HasCall, IsCallOf}
 

@@ -7,7 +7,7 @@ use Rattle.mars_tree.specs.declared.label.Label.TheVariants.{Str}
 use Rattle.mars_tree.specs.declared.label.NameId.{NameId}
 use Rattle.mars_store.specs.System.{System}
 use Rattle.mars_store.proofs.CallerLemmas.{grows-refl}
-use Rattle.mars_dif.specs.Kept.{Kept, Serves, IsKeeper, IsCurrent, IsAfter, waiting_of}
+use Rattle.mars_dif.specs.Kept.{Kept, IsKeeper, IsCurrent, IsAfter, waiting_of}
 use Rattle.mars_frozen.specs.Freezing.{waiting_pairs}
 use Rattle.mars_frozen.proofs.CallerLemmas.{later-all}
 use Rattle.mars_canon.specs.Canon.{Rooted}
@@ -22,13 +22,13 @@ use Rattle.mars_machine.specs.Equations.{Equations}
 use Rattle.mars_machine.specs.Alternatives.{Alternative}
 use Rattle.mars_machine.specs.BuiltIns.{built_in_label}
 use Rattle.mars_machine.specs.TermAnswers.{IsTermAnswer, IsAnswerOf, answer_roots, ask_variables}
-use Rattle.mars_bridge.specs.Represents.{Denotes, DenotesPair, DenoteAll}
+use Rattle.mars_bridge.specs.Represents.{DenotesPair, DenoteAll}
 use Rattle.mars_bridge.proofs.Answered.{answer_denoted, roots_denoted}
 use Rattle.mars_children.specs.DecidingLaws.{OpenTold}
 use Rattle.mars_children.proofs.Deciding.{open_denoted}
 use Rattle.mars_memory.specs.Memory.{MemoryParts, root_of_node, IsLaterMemory}
 use Rattle.mars_memory.specs.Holding.{Writes, Holds}
-use Rattle.mars_memory.specs.Found.{HasCall, IsCallOf, IsToldTree, IsToldText, IsToldAnswer}
+use Rattle.mars_memory.specs.Found.{IsCallOf, IsToldTree, IsToldText, IsToldAnswer}
 use Rattle.mars_memory.proofs.Calls.{held-argument}
 use Rattle.mars_memory.proofs.BuiltIns.{kid_is, forced-first, first-forced, pairs-inside}
 
