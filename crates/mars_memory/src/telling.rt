@@ -16,7 +16,8 @@ use mars_store::NodeId;
 use mars_tree::NameId;
 use std::alloc::Global;
 
-/// The tree of the argument of a call of `out`, as far as it is known.
+/// The tree of the argument of a call of `out`, as far as it is known. It takes what `answer` takes for what the argument
+/// reaches. The only error is out of memory.
 pub fn tell_tree(
     alloc: Global,
     memory: &Memory,
@@ -31,7 +32,8 @@ pub fn tell_tree(
     memory.tree_at(alloc, kid)
 }
 
-/// The string that the argument of a call of `outm` is, `None` exactly where it is none.
+/// The string that the argument of a call of `outm` is, `None` exactly where it is none. Linear in the argument's links; it
+/// takes no memory.
 pub fn tell_text(memory: &Memory, node: NodeId, rest: GoalList) -> Result<Option<NameId>, NoMemory>
     requires held { HasCall memory.now node rest }
     requires label { IsCallOf memory.now node OutText }
@@ -41,7 +43,8 @@ pub fn tell_text(memory: &Memory, node: NodeId, rest: GoalList) -> Result<Option
     Ok(memory.string_at(kid))
 }
 
-/// The answer that a memory holds, of an ask with variables at these nodes.
+/// The answer that a memory holds, of an ask with variables at these nodes. It looks again at the inequations, and then takes
+/// what `answer` takes for what the answer reaches. The only error is out of memory.
 pub fn tell_answer(alloc: Global, memory: &mut Memory, asked: &[NodeId]) -> Result<Answer, NoMemory>
     requires { (groups : List (List Alternative)) × (goals : List Pending) × (alternative : Alternative) × Holds asked.now memory.old groups goals alternative }
     ensures answer { IfOk result (λ answer. IsToldAnswer memory.old asked.now answer) }
