@@ -1,16 +1,16 @@
 -- From one choice point to the one before it.
-use Rattle.std.proofs.Common.{◌≡◌, ℕ, ◌≤◌, List, [], ◌∷◌, ◌++◌, length, refl, sym, ap, ◌∙◌, subst, arith, Option, Some, None}
+use Rattle.std.proofs.Common.{◌≡◌, ℕ, List, [], ◌∷◌, ◌++◌, length, refl, sym, ap, ◌∙◌, subst, Option, Some, None}
 use Rattle.mars_term.specs.declared.clause.Rule.{Rule}
 use Rattle.mars_goals.specs.declared.cells.Pending.{Pending}
 use Rattle.mars_goals.specs.declared.choice.Choice.{Choice}
 use Rattle.mars_goals.specs.GoalLists.{list_at}
 use Rattle.mars_machine.specs.Alternatives.{Alternative}
-use Rattle.mars_memory.specs.Memory.{MemoryParts, memory_undone, IsMemoryMark, IsLaterMemory}
+use Rattle.mars_memory.specs.Memory.{MemoryParts, memory_undone, IsMemoryMark}
 use Rattle.mars_memory.specs.Holding.{alternatives_of, Holds}
 use Rattle.mars_memory.specs.Found.{HasCall}
 use Rattle.mars_run.specs.Choices.{IsChoiceOf, AreChoicesOf}
 use Rattle.mars_run.specs.Choices.AreChoicesOf.{none, more}
-use Rattle.mars_run.specs.States.{IsState, IsMachineState, HasChoices}
+use Rattle.mars_run.specs.States.{IsState, IsMachineState}
 use Rattle.mars_run.specs.Searching.{IsLeft, IsTried, with_left, IsChosen, GoesBack, GoesDown}
 use Rattle.mars_run.proofs.Stacks.{holds-cons, one-each, choices-later, choices-pushed}
 

@@ -1,13 +1,11 @@
 -- One step of a state whose first alternative has a call.
-use Rattle.std.proofs.Common.{◌≡◌, ℕ, ◌≤◌, List, [], ◌∷◌, ◌++◌, length, All, refl, sym, ap, ◌∙◌, subst, arith, Option, Some, None}
+use Rattle.std.proofs.Common.{◌≡◌, ℕ, List, [], ◌∷◌, ◌++◌, length, All, refl, arith, Option, Some, None}
 use Rattle.mars_tree.specs.declared.label.NameId.{NameId}
 use Rattle.mars_canon.specs.Canon.{Rooted}
-use Rattle.mars_term.specs.declared.clause.Ask.{Ask}
 use Rattle.mars_term.specs.declared.clause.Rule.{Rule}
 use Rattle.mars_term.specs.Clauses.{IsRule}
 use Rattle.mars_rules.specs.RuleLists.{RuleList}
 use Rattle.mars_goals.specs.declared.choice.Choice.{Choice}
-use Rattle.mars_goals.specs.GoalLists.{list_at}
 use Rattle.mars_frozen.specs.Freezing.{waiting_pairs}
 use Rattle.mars_machine.specs.declared.built_in.BuiltIn.{BuiltIn}
 use Rattle.mars_machine.specs.declared.built_in.BuiltIn.TheVariants.{Eq, Dif, Freeze, Val, Bound, Free, Out, OutText}
@@ -15,23 +13,21 @@ use Rattle.mars_machine.specs.declared.stepped.Stepped.{Stepped}
 use Rattle.mars_machine.specs.declared.stepped.Stepped.TheVariants.{Went, Said, SaidText}
 use Rattle.mars_machine.specs.Subjects.{Subject, Part}
 use Rattle.mars_machine.specs.Equations.{Forces}
-use Rattle.mars_machine.specs.Alternatives.{OpenGoal, Call, Alternative}
+use Rattle.mars_machine.specs.Alternatives.{OpenGoal, Alternative}
 use Rattle.mars_machine.specs.Children.{AreRuleChildren}
 use Rattle.mars_machine.specs.BuiltIns.{HasBuiltIn, IsBuiltInChild, built_in_label}
 use Rattle.mars_machine.specs.BuiltIns.IsBuiltInChild.{out_text as built-out_text}
-use Rattle.mars_machine.specs.Steps.{Says, nothing, tree, text, BuiltInSays, IsSilent, CallsBuiltIn, IsDerivationStep}
+use Rattle.mars_machine.specs.Steps.{nothing, tree, text, IsSilent}
 use Rattle.mars_machine.specs.Steps.BuiltInSays.{tree_said, text_said, nothing_said}
 use Rattle.mars_machine.specs.Steps.IsDerivationStep.{calls, goes_on, fails}
 use Rattle.mars_bridge.proofs.Parts.{root_iff}
-use Rattle.mars_children.specs.ChildrenLaws.{IsDenotedCall}
 use Rattle.mars_children.proofs.Offspring.{children_exist}
 use Rattle.mars_memory.specs.Memory.{MemoryParts, IsLaterMemory}
 use Rattle.mars_memory.specs.Holding.{alternatives_of}
 use Rattle.mars_memory.specs.Found.{HoldsCall, IsCallOf, IsDone, IsToldTree, IsToldText}
-use Rattle.mars_run.specs.Choices.{IsChoiceOf, AreChoicesOf}
 use Rattle.mars_run.specs.States.{HasChoices}
 use Rattle.mars_run.specs.Searching.{GoesBack, GoesDown}
-use Rattle.mars_run.specs.Stepping.{StepsTo, IsCalled, IsOfRules, IsToldCall}
+use Rattle.mars_run.specs.Stepping.{IsCalled, IsOfRules, IsToldCall}
 use Rattle.mars_run.proofs.Stacks.{choices-later}
 use Rattle.mars_run.proofs.Unfit.{held-node}
 

@@ -1,5 +1,5 @@
 -- One step of a state, by its first goal.
-use Rattle.std.proofs.Common.{◌≡◌, ℕ, ◌-◌, ◌<◌, ◌≤◌, List, [], ◌∷◌, ◌++◌, length, drop, length-drop, refl, sym, ap, ◌∙◌, subst, arith, Option, Some, None}
+use Rattle.std.proofs.Common.{◌≡◌, ℕ, ◌-◌, ◌<◌, ◌≤◌, List, [], ◌∷◌, length, drop, length-drop, refl, sym, ap, ◌∙◌, subst, arith, Option, Some}
 use Rattle.mars_store.specs.System.{System}
 use Rattle.mars_answer.specs.declared.answers.Answer.{Answer}
 use Rattle.mars_term.specs.declared.clause.Rule.{Rule}
@@ -13,7 +13,7 @@ use Rattle.mars_machine.specs.declared.stepped.Stepped.TheVariants.{Went, Answer
 use Rattle.mars_machine.specs.Subjects.{Subject}
 use Rattle.mars_machine.specs.Equations.{Equations}
 use Rattle.mars_machine.specs.Alternatives.{OpenGoal, Call, CutTo, Alternative}
-use Rattle.mars_machine.specs.Steps.{Says, nothing, answer, IsDerivationStep}
+use Rattle.mars_machine.specs.Steps.{nothing, answer}
 use Rattle.mars_machine.specs.Steps.IsDerivationStep.{answers, cuts}
 use Rattle.mars_memory.specs.Memory.{MemoryParts, IsLaterMemory}
 use Rattle.mars_memory.specs.Holding.{alternatives_of, height_of, DenoteGoals, Holds}
@@ -22,7 +22,7 @@ use Rattle.mars_memory.specs.Found.{HoldsCall, HasCall, IsToldAnswer}
 use Rattle.mars_run.specs.Choices.{AreChoicesOf}
 use Rattle.mars_run.specs.States.{IsState, HasChoices}
 use Rattle.mars_run.specs.Searching.{GoesBack}
-use Rattle.mars_run.specs.Stepping.{StepsTo, IsStepped, IsCalled, HoldsGoals, HasAnswer, IsAnswered, HasGoal, IsDown}
+use Rattle.mars_run.specs.Stepping.{StepsTo, IsStepped, IsCalled, HoldsGoals, IsAnswered, HasGoal, IsDown}
 use Rattle.mars_run.proofs.Stacks.{writes-with, goals-moved, one-each, choices-later, choices-cut, alternatives-last, height-last}
 
 -- the first goal that some goals of a machine denote

@@ -6,3 +6,4 @@ pub mod Backtracking
 pub mod Trying
 pub mod Calling
 pub mod Going
+pub mod Reaching

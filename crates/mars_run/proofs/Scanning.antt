@@ -1,5 +1,5 @@
 -- From one rule to the next.
-use Rattle.std.proofs.Common.{◌≡◌, ℕ, zero, suc, ◌+◌, ◌-◌, ◌<◌, ◌≤◌, List, [], ◌∷◌, length, drop, slice_get, get_or, add-zero, refl, sym, ap, ◌∙◌, subst, arith, inl, inr, Option, Some, None, All}
+use Rattle.std.proofs.Common.{◌≡◌, ℕ, zero, suc, ◌+◌, ◌-◌, ◌<◌, ◌≤◌, List, [], ◌∷◌, length, drop, slice_get, add-zero, refl, sym, ap, ◌∙◌, subst, arith, inl, inr, Option, Some, None, All}
 use Rattle.std.proofs.lemmas.List.{drop_more}
 use Rattle.std.proofs.lemmas.List.Elements.{All-get_or}
 use Rattle.std.proofs.lemmas.Option.{slice_get_within, get_or_from_slice_get, slice_get_cases}
@@ -16,9 +16,9 @@ use Rattle.mars_machine.specs.Children.AreRuleChildren.{none as children-none, c
 use Rattle.mars_machine.proofs.Steps.{rule_child_once}
 use Rattle.mars_memory.specs.Memory.{MemoryParts, root_of_node, first_of_node}
 use Rattle.mars_memory.specs.Holding.{alternatives_of, Holds}
-use Rattle.mars_memory.specs.Found.{HoldsCall, HasNoRuleChild, HasRuleChild, HoldsRuleChild}
+use Rattle.mars_memory.specs.Found.{HasNoRuleChild, HasRuleChild}
 use Rattle.mars_run.specs.Choices.{IsChoiceOf}
-use Rattle.mars_run.specs.Searching.{IsLeft, HasNext}
+use Rattle.mars_run.specs.Searching.{IsLeft}
 use Rattle.mars_run.proofs.Unfit.{unfit-childless}
 
 module _ (parent : Alternative) (call : Subject) (others : List OpenGoal) (height : ℕ) where

@@ -1,5 +1,5 @@
 -- Choice points while the memory is added to, undone and cut.
-use Rattle.std.proofs.Common.{◌≡◌, ℕ, zero, suc, ◌+◌, ◌-◌, ◌<◌, ◌≤◌, List, [], ◌∷◌, ◌++◌, length, take, drop, refl, sym, ap, ◌∙◌, subst, arith, length-append, zero-add, length-drop, All}
+use Rattle.std.proofs.Common.{◌≡◌, ℕ, zero, suc, ◌+◌, ◌-◌, ◌≤◌, List, [], ◌∷◌, ◌++◌, length, drop, refl, sym, ap, ◌∙◌, subst, arith, length-append, zero-add, length-drop}
 use Rattle.mars_store.specs.System.{System}
 use Rattle.mars_term.specs.declared.clause.Rule.{Rule}
 use Rattle.mars_goals.specs.declared.cells.Pending.{Pending}

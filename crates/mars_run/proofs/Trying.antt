@@ -1,5 +1,5 @@
 -- Rules are tried on a call, one candidate after another.
-use Rattle.std.proofs.Common.{◌≡◌, ℕ, ◌+◌, ◌<◌, ◌≤◌, List, length, slice_get, subst, arith, sym, Option, Some, None, All}
+use Rattle.std.proofs.Common.{◌≡◌, ℕ, ◌+◌, ◌≤◌, List, length, slice_get, subst, arith, sym, Option, Some, None, All}
 use Rattle.std.proofs.lemmas.Option.{slice_get_within}
 use Rattle.mars_tree.specs.declared.label.Label.{Label}
 use Rattle.mars_term.specs.declared.clause.Rule.{Rule}

@@ -1,5 +1,5 @@
 -- What was undone was only added to since.
-use Rattle.std.proofs.Common.{◌≡◌, ℕ, ◌≤◌, List, length, take, ap, arith}
+use Rattle.std.proofs.Common.{◌≡◌, ℕ, ◌≤◌, length, take, ap, arith}
 use Rattle.std.proofs.lemmas.List.{length-take-le}
 use Rattle.mars_store.specs.System.{System, IsMark, Grows, undone}
 use Rattle.mars_store.specs.declared.mark.Mark.{Mark}

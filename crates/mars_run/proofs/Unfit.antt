@@ -1,13 +1,13 @@
 -- A rule whose head has another label than a call, or another one at its first argument, has no child.
-use Rattle.std.proofs.Common.{◌≡◌, ℕ, ◌<◌, List, [], ◌∷◌, length, slice_get, All, Option, Some, None, option_and_then, refl, sym, ap, ◌∙◌, subst, arith}
+use Rattle.std.proofs.Common.{◌≡◌, ℕ, ◌<◌, List, [], ◌∷◌, length, slice_get, All, Option, Some, None, option_and_then, refl, sym, ap, ◌∙◌, subst}
 use Rattle.mars_tree.specs.declared.label.Label.{Label}
 use Rattle.mars_tree.specs.Graph.{label as at_label, kids_of}
 use Rattle.mars_store.specs.System.{System, resolve}
 use Rattle.mars_store.specs.Valuation.{Valuation}
-use Rattle.mars_term.specs.declared.term.Term.{Term, Name}
+use Rattle.mars_term.specs.declared.term.Term.{Term}
 use Rattle.mars_term.specs.declared.clause.Rule.{Rule}
 use Rattle.mars_term.specs.Clauses.{IsRule}
-use Rattle.mars_rules.specs.TermTrees.{label_of_term, arguments_of, tree_of_term}
+use Rattle.mars_rules.specs.TermTrees.{label_of_term, arguments_of}
 use Rattle.mars_rules.specs.Candidates.{FitsGoal, FitsFirst, AllowsLabel, label_of_first}
 use Rattle.mars_rules.proofs.TermFacts.{arguments-Name}
 use Rattle.mars_goals.specs.declared.cells.Pending.TheVariants as pending
@@ -16,18 +16,18 @@ use Rattle.mars_goals.specs.declared.cells.Pending.{Pending}
 use Rattle.mars_machine.specs.Subjects.{Subject, Renamed, Part, subject_value}
 use Rattle.mars_machine.specs.Equations.{Equations, HaveOneTree, Solves}
 use Rattle.mars_machine.specs.Alternatives.{OpenGoal, Call, Alternative}
-use Rattle.mars_machine.specs.Children.{MayTake, IsRuleChild, called_equations}
+use Rattle.mars_machine.specs.Children.{IsRuleChild}
 use Rattle.mars_machine.proofs.Values.{value-argument}
 use Rattle.mars_machine.proofs.Steps.{shown-label}
 use Rattle.mars_bridge.specs.Represents.{Denotes}
-use Rattle.mars_bridge.specs.Scoped.{UsesBelow, IsScoped}
+use Rattle.mars_bridge.specs.Scoped.{UsesBelow}
 use Rattle.mars_bridge.proofs.Parts.{root_iff, part_denoted}
 use Rattle.mars_bridge.proofs.Matched.{split-last}
 use Rattle.mars_bridge.proofs.Variables.{within_value, cut-same, cut_solves}
 use Rattle.mars_store.specs.Growing.{cut}
 use Rattle.mars_memory.specs.Memory.{MemoryParts, root_of_node, root_of_first, first_of_node}
 use Rattle.mars_memory.specs.Holding.{DenoteGoals, alternatives_of}
-use Rattle.mars_memory.specs.Holding.DenoteGoals.{none as goals-none, calls as goals-calls, cuts as goals-cuts}
+use Rattle.mars_memory.specs.Holding.DenoteGoals.{calls as goals-calls}
 use Rattle.mars_memory.specs.Found.{HoldsCall, HasCall, HasNoRuleChild}
 
 -- the node of a call denotes the call, over variables that are in use

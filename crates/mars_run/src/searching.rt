@@ -45,7 +45,15 @@ fn try_rules(
     'rules: while let Some(rule) = rules.candidate_by(root, first, from) {
         let next = place_after(rule)?;
         let flat = rules.flat(rule);
-        if let Some(list) = take_rule(alloc, memory, flat, choice.call, choice.rest, depth, registers)? {
+        if let Some(list) = take_rule(
+            alloc,
+            memory,
+            flat,
+            choice.call,
+            choice.rest,
+            depth,
+            registers,
+        )? {
             return Ok(Some((list, rules.candidate_by(root, first, next))));
         }
         from = next;

@@ -75,14 +75,7 @@ fn step_call(
 {
     match called_built_in(rules, memory, node) {
         Some(built_in) => step_built_in(
-            alloc,
-            rules,
-            memory,
-            points,
-            registers,
-            built_in,
-            node,
-            rest,
+            alloc, rules, memory, points, registers, built_in, node, rest,
         ),
         None => {
             let next = call_rules(alloc, rules, memory, points, node, rest, registers)?;
@@ -148,14 +141,6 @@ pub(crate) fn step_on(
 {
     match memory.first(list) {
         None => step_answer(alloc, rules, memory, points, registers, asked),
-        Some(first) => step_goal(
-            alloc,
-            rules,
-            memory,
-            points,
-            registers,
-            first.0,
-            first.1,
-        ),
+        Some(first) => step_goal(alloc, rules, memory, points, registers, first.0, first.1),
     }
 }

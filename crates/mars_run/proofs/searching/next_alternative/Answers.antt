@@ -1,4 +1,4 @@
-use Rattle.std.proofs.Common.{refl, None}
+use Rattle.std.proofs.Common.{refl}
 use Rattle.mars_goals.specs.declared.choice.Choice.{Choice}
 use Rattle.mars_run.proofs.Backtracking.{popped, choice-held, ends-back, top-of, passed-back, went-back}
 use Rattle.mars_run.proofs.searching.next_alternative.Goals as goal

@@ -1,4 +1,4 @@
-use Rattle.std.proofs.Common.{◌≤◌, ◌<◌, length, subst, arith, Some, None}
+use Rattle.std.proofs.Common.{◌<◌, length, subst, arith, Some, None}
 use Rattle.std.proofs.lemmas.Option.{slice_get_within}
 use Rattle.mars_memory.specs.Found.{IsTaken}
 use Rattle.mars_run.proofs.Unfit.{held-inside}
