@@ -24,13 +24,30 @@ use Rattle.mars_machine.specs.TermAnswers.{IsTermAnswer, IsAnswerOf}
 use Rattle.mars_memory.specs.Memory.{MemoryParts, IsLaterMemory}
 use Rattle.mars_memory.specs.Holding.{alternatives_of, Writes, Holds}
 
--- an alternative is held whose goals are the list
-pub record HoldsList (m : MemoryParts) (list : ℕ) : Type 0 where
+-- an alternative is written whose goals are the list
+pub record HasWritten (m : MemoryParts) (list : ℕ) : Type 0 where
   pub asked : List ℕ
   pub groups : List (List Alternative)
   pub alternative : Alternative
   pub inside : list < length m.lists
-  pub holds : Holds asked m groups (list_at m.lists list) alternative
+  pub writes : Writes asked m groups (list_at m.lists list) alternative
+
+-- an alternative that was written has a solution, and is written with the goals that wake before its own
+pub record Settles (asked : List ℕ) (groups : List (List Alternative)) (alternative : Alternative) (new : MemoryParts) (list : ℕ) : Type 0 where
+  pub solvable : AreSolvable alternative.equations alternative.differ
+  pub woken : List OpenGoal
+  pub left : List (Subject × Subject)
+  pub wakes : Wakes alternative.equations alternative.frozen woken left
+  pub writes : Writes asked new groups (list_at new.lists list) (record alternative { goals = woken ++ alternative.goals; frozen = left })
+
+-- whichever alternative was written with the list, it has no solution; or it is settled
+abbrev pub IsSettled : MemoryParts → ℕ → MemoryParts → Option ℕ → Type 0
+IsSettled old list new None = IsLaterMemory old new
+    × ((asked : List ℕ) (groups : List (List Alternative)) (alternative : Alternative) → Writes asked old groups (list_at old.lists list) alternative
+    → AreSolvable alternative.equations alternative.differ → ⊥)
+IsSettled old list new (Some found) = IsLaterMemory old new × (found < length new.lists)
+    × ((asked : List ℕ) (groups : List (List Alternative)) (alternative : Alternative) → Writes asked old groups (list_at old.lists list) alternative
+    → Settles asked groups alternative new found)
 
 -- an alternative is held whose first goal is a call of a node, and whose others are the list
 pub record HoldsCall (asked : List ℕ) (m : MemoryParts) (groups : List (List Alternative)) (node rest : ℕ) (parent : Alternative) (call : Subject) (others : List OpenGoal) : Type 0 where
@@ -47,10 +64,21 @@ pub record HasCall (m : MemoryParts) (node rest : ℕ) : Type 0 where
   pub others : List OpenGoal
   pub is_call : HoldsCall asked m groups node rest parent call others
 
--- whichever alternative with this call is held, it has no child by the rule
-abbrev pub HasNoRuleChild : MemoryParts → ℕ → ℕ → Rule → Type 0
-HasNoRuleChild m node rest rule = (asked : List ℕ) (groups : List (List Alternative)) (parent : Alternative) (call : Subject) (others : List OpenGoal)
-    → HoldsCall asked m groups node rest parent call others
+-- there is one before so many choice points
+pub record HasCallAt (m : MemoryParts) (node rest depth : ℕ) : Type 0 where
+  pub has : HasCall m node rest
+  pub depth_is : length has.groups ≡ depth
+
+-- a rule that is well formed is laid out so
+pub record HasRule (flat : FlatRule) : Type 0 where
+  pub rule : Rule
+  pub is_rule : IsRule rule
+  pub is_flat : IsFlatRule rule flat
+
+-- whichever alternative with this call is held before so many choice points, it has no child by the rule
+abbrev pub HasNoRuleChild : MemoryParts → ℕ → ℕ → ℕ → Rule → Type 0
+HasNoRuleChild m node rest depth rule = (asked : List ℕ) (groups : List (List Alternative)) (parent : Alternative) (call : Subject) (others : List OpenGoal)
+    → HoldsCall asked m groups node rest parent call others → length groups ≡ depth
     → (child : Alternative) → IsRuleChild parent call others (length (alternatives_of groups)) rule child → ⊥
 
 -- a child by a rule is held after the call was
@@ -67,7 +95,7 @@ HasRuleChild m node rest depth rule new list = (asked : List ℕ) (groups : List
 
 -- a rule was tried: there is no child and the memory is as before, or there is one
 abbrev pub IsTaken : MemoryParts → ℕ → ℕ → ℕ → FlatRule → MemoryParts → Option ℕ → Type 0
-IsTaken old node rest depth flat new None = (new ≡ old) × ((rule : Rule) → IsRule rule → IsFlatRule rule flat → HasNoRuleChild old node rest rule)
+IsTaken old node rest depth flat new None = (new ≡ old) × ((rule : Rule) → IsRule rule → IsFlatRule rule flat → HasNoRuleChild old node rest depth rule)
 IsTaken old node rest depth flat new (Some list) = IsLaterMemory old new × (list < length new.lists)
     × ((rule : Rule) → IsRule rule → IsFlatRule rule flat → HasRuleChild old node rest depth rule new list)
 

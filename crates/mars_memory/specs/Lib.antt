@@ -4,3 +4,7 @@ pub mod Holding
 pub mod Found
 -- Laws: marks of a memory.
 pub mod MemoryLaws
+-- Inside: the code's own steps, promised to nobody.
+pub mod BuiltInsInside
+pub mod ListsInside
+pub mod TakingInside

@@ -2,6 +2,7 @@
 #![tactic(auto)]
 
 mod built_ins;
+mod changes;
 mod laws;
 mod lists;
 mod memory;
