@@ -7,3 +7,4 @@ pub mod Trying
 pub mod Calling
 pub mod Going
 pub mod Reaching
+pub mod Asked
