@@ -8,3 +8,4 @@ pub mod Calling
 pub mod Going
 pub mod Reaching
 pub mod Asked
+pub mod Starting

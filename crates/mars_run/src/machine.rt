@@ -1,8 +1,10 @@
 //! The machine.
-ghost use Rattle.std.specs.Prelude.{◌≡◌, ◌-◌, ◌^◌, ◌<◌, false, true, IfOk, OnOk, OnErr, IsErr, MatchOption};
-ghost use Rattle.mars_machine.specs.Machines.{TellsLeft, IsMachineStep, stepped_machine, broken_machine, IsMachineAsk};
+ghost use Rattle.std.specs.Prelude.{◌≡◌, ◌-◌, ◌^◌, ◌<◌, length, false, true, IfOk, OnOk, OnErr, IsErr, MatchOption};
+ghost use Rattle.mars_term.specs.Clauses.{IsAsk};
+ghost use Rattle.mars_machine.specs.Machines.{started_machine, TellsLeft, IsMachineStep, stepped_machine, broken_machine, IsMachineAsk};
 ghost use Rattle.mars_run.specs.Asking.{at_steps, EndsHere, GoesOnHere, told_after, answers_after};
 
+use crate::copying::{copy_ask, copy_trees};
 use crate::stepping::step_on;
 use mars_base::NoMemory;
 use mars_canon::Tree;
@@ -10,6 +12,7 @@ use mars_goals::{ChoicePoints, GoalList};
 use mars_machine::{Asked, Ending, Sayings, Stepped};
 use mars_memory::{Memory, Registers};
 use mars_rules::RuleBase;
+use mars_start::start_ask;
 use mars_store::NodeId;
 use mars_term::Ask;
 use sqlite_items::Items;
@@ -52,6 +55,37 @@ impl<'r> Model for Machine<'r> {
 }
 
 impl<'r> Machine<'r> {
+    /// A machine that made no step, with a tree for each kept name of its ask. It borrows the rules, and keeps copies of the
+    /// ask and of the trees. Linear in these. The error is out of memory alone.
+    pub fn start(
+        alloc: Global,
+        rules: &'r RuleBase,
+        ask: &Ask,
+        kept: &[Tree],
+    ) -> Result<Machine<'r>, NoMemory>
+        requires ask { IsAsk ask.now }
+        requires kept { length kept.now ≡ length ask.now.kept }
+        ensures { IfOk result (λ machine. machine ≡ started_machine rules.now ask.now kept.now) }
+    {
+        let own_ask = copy_ask(alloc, ask)?;
+        let own_trees = copy_trees(alloc, kept)?;
+        let begun = start_ask(alloc, ask, kept)?;
+        let _version = rules.version();
+        Ok(Machine {
+            alloc,
+            rules,
+            ask: own_ask,
+            kept: own_trees,
+            memory: Memory::new(alloc, begun.store, begun.lists),
+            points: ChoicePoints::new(alloc),
+            registers: Registers::new(alloc),
+            asked: begun.vars,
+            present: Some(begun.goals),
+            steps: 0,
+            broken: false,
+        })
+    }
+
     /// How many steps were made.
     pub fn steps(&self) -> u64
         ensures { result ≡ self.now.steps }
