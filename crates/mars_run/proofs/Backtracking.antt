@@ -7,7 +7,7 @@ use Rattle.mars_goals.specs.GoalLists.{list_at}
 use Rattle.mars_machine.specs.Alternatives.{Alternative}
 use Rattle.mars_memory.specs.Memory.{MemoryParts, memory_undone, IsMemoryMark}
 use Rattle.mars_memory.specs.Holding.{alternatives_of, Holds}
-use Rattle.mars_memory.specs.Found.{HasCall}
+use Rattle.mars_memory.specs.Found.{HasCallAt}
 use Rattle.mars_run.specs.Choices.{IsChoiceOf, AreChoicesOf}
 use Rattle.mars_run.specs.Choices.AreChoicesOf.{none, more}
 use Rattle.mars_run.specs.States.{IsState, IsMachineState}
@@ -80,15 +80,18 @@ none-left asked rules m [] none = refl
 none-left asked rules m (g ∷ gs) h = elim h [ ]
 
 -- a call that has children is held
-pub choice-held : (asked : List ℕ) (rules : List Rule) (m : MemoryParts) (groups : List (List Alternative)) (node rest from : ℕ) (children : List Alternative)
-    → IsChoiceOf asked rules m groups node rest from children → HasCall m node rest
-choice-held asked rules m groups node rest from children is = record {
-  asked = asked;
-  groups = groups;
-  parent = is.parent;
-  call = is.call;
-  others = is.others;
-  is_call = is.is_call;
+pub choice-held : (asked : List ℕ) (rules : List Rule) (m : MemoryParts) (groups : List (List Alternative)) (node rest from depth : ℕ) (children : List Alternative)
+    → IsChoiceOf asked rules m groups node rest from children → length groups ≡ depth → HasCallAt m node rest depth
+choice-held asked rules m groups node rest from depth children is size = record {
+  has = record {
+    asked = asked;
+    groups = groups;
+    parent = is.parent;
+    call = is.call;
+    others = is.others;
+    is_call = is.is_call;
+  };
+  depth_is = size;
 }
 
 -- choice points are those of before, looked at from here

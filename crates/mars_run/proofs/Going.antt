@@ -18,7 +18,7 @@ use Rattle.mars_machine.specs.Steps.IsDerivationStep.{answers, cuts}
 use Rattle.mars_memory.specs.Memory.{MemoryParts, IsLaterMemory}
 use Rattle.mars_memory.specs.Holding.{alternatives_of, height_of, DenoteGoals, Holds}
 use Rattle.mars_memory.specs.Holding.DenoteGoals.{none as goals-none, calls as goals-calls, cuts as goals-cuts}
-use Rattle.mars_memory.specs.Found.{HoldsCall, HasCall, IsToldAnswer}
+use Rattle.mars_memory.specs.Found.{HoldsCall, HasCallAt, IsToldAnswer}
 use Rattle.mars_run.specs.Choices.{AreChoicesOf}
 use Rattle.mars_run.specs.States.{IsState, HasChoices}
 use Rattle.mars_run.specs.Searching.{GoesBack}
@@ -66,11 +66,14 @@ held-call asked m groups node rest first inside holds =
     let c = call-first first.equations m.system w.vars groups (length groups) node (list_at m.lists rest) first.goals w.goals_are in
     record { call = c.0; others = c.1; held = record { goals = c.2; inside = inside; holds = holds } }
 
-pub goal-held : (rules : List Rule) (m : MemoryParts) (choices : List Choice) (goal : Pending) (node rest : ℕ) → goal ≡ pending.Call node → HasGoal rules m choices goal rest → HasCall m node rest
+pub goal-held : (rules : List Rule) (m : MemoryParts) (choices : List Choice) (goal : Pending) (node rest : ℕ) → goal ≡ pending.Call node → HasGoal rules m choices goal rest → HasCallAt m node rest (length choices)
 goal-held rules m choices goal node rest e h =
     let f = h.held in
     let c = held-call h.asked m f.groups node rest f.first h.inside (subst (λ g. Holds h.asked m f.groups (g ∷ list_at m.lists rest) f.first) e f.holds) in
-    record { asked = h.asked; groups = f.groups; parent = f.first; call = c.call; others = c.others; is_call = c.held }
+    record {
+      has = record { asked = h.asked; groups = f.groups; parent = f.first; call = c.call; others = c.others; is_call = c.held };
+      depth_is = sym (one-each h.asked rules m choices f.groups f.choices_are);
+    }
 
 pub held-choices : (asked : List ℕ) (rules : List Rule) (m : MemoryParts) (choices : List Choice) (goals : List Pending) → HoldsGoals asked rules m choices goals → HasChoices rules m choices
 held-choices asked rules m choices goals h = record { asked = asked; groups = h.groups; choices_are = h.choices_are }

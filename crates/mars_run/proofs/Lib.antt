@@ -7,3 +7,5 @@ pub mod Trying
 pub mod Calling
 pub mod Going
 pub mod Reaching
+pub mod Asked
+pub mod Starting

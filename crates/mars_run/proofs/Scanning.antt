@@ -45,9 +45,9 @@ drop-at rules i rule e = drop_more rules i rule (slice_get_within rules i rule e
 pub rule-at : (rules : List Rule) (i : ℕ) (rule : Rule) → slice_get rules i ≡ Some rule → All IsRule rules → IsRule rule
 rule-at rules i rule e all = subst IsRule (get_or_from_slice_get rules i rule rule e) (All-get_or IsRule rules i rule (slice_get_within rules i rule e) all)
 
-module _ (asked : List ℕ) (rules : List Rule) (m : MemoryParts) (groups : List (List Alternative)) (node rest : ℕ) where
+module _ (asked : List ℕ) (rules : List Rule) (m : MemoryParts) (groups : List (List Alternative)) (node rest depth : ℕ) (size : length groups ≡ depth) where
   -- a rule without a child is passed over
-  pub choice-passed : (from : ℕ) (rule : Rule) (children : List Alternative) → slice_get rules from ≡ Some rule → HasNoRuleChild m node rest rule
+  pub choice-passed : (from : ℕ) (rule : Rule) (children : List Alternative) → slice_get rules from ≡ Some rule → HasNoRuleChild m node rest depth rule
       → IsChoiceOf asked rules m groups node rest from children → IsChoiceOf asked rules m groups node rest (from + 1) children
   choice-passed from rule children at none_there is = record {
     parent = is.parent;
@@ -57,7 +57,7 @@ module _ (asked : List ℕ) (rules : List Rule) (m : MemoryParts) (groups : List
     within = let w = slice_get_within rules from rule at in omega arith;
     children_are = first-none is.parent is.call is.others (length (alternatives_of groups)) rule (drop (from + 1) rules) children
         (subst (λ rs. AreRuleChildren is.parent is.call is.others (length (alternatives_of groups)) rs children) (drop-at rules from rule at) is.children_are)
-        (none_there asked groups is.parent is.call is.others is.is_call);
+        (none_there asked groups is.parent is.call is.others is.is_call size);
   }
 
   -- a rule with a child gives the first one
@@ -68,9 +68,9 @@ module _ (asked : List ℕ) (rules : List Rule) (m : MemoryParts) (groups : List
     pub holds : Holds asked new groups (list_at new.lists list) first
     pub left : IsChoiceOf asked rules m groups node rest (from + 1) later
 
-  pub choice-taken : (from depth : ℕ) (rule : Rule) (children : List Alternative) (new : MemoryParts) (list : ℕ) → slice_get rules from ≡ Some rule → HasRuleChild m node rest depth rule new list
-      → IsChoiceOf asked rules m groups node rest from children → length groups ≡ depth → IsTakenChild from children new list
-  choice-taken from depth rule children new list at has is size =
+  pub choice-taken : (from : ℕ) (rule : Rule) (children : List Alternative) (new : MemoryParts) (list : ℕ) → slice_get rules from ≡ Some rule → HasRuleChild m node rest depth rule new list
+      → IsChoiceOf asked rules m groups node rest from children → IsTakenChild from children new list
+  choice-taken from rule children new list at has is =
       let found = has asked groups is.parent is.call is.others is.is_call size in
       let split = first-one is.parent is.call is.others (length (alternatives_of groups)) rule (drop (from + 1) rules) children found.child
       (subst (λ rs. AreRuleChildren is.parent is.call is.others (length (alternatives_of groups)) rs children) (drop-at rules from rule at) is.children_are) found.is_child in
@@ -104,7 +104,7 @@ module _ (asked : List ℕ) (rules : List Rule) (m : MemoryParts) (groups : List
     | inr past ↦ absurd (omega (arith, past.0))
     | inl (rule, within, at, same) ↦
         let own : IsRule rule = rule-at rules from rule at well in
-        let step = choice-passed from rule children at (unfit-childless m node rest rule own (unfit from rule (omega arith) (omega arith) at)) is in
+        let step = choice-passed from rule children at (unfit-childless m node rest depth rule own (unfit from rule (omega arith) (omega arith) at)) is in
         let places : from + 1 + count ≡ from + suc count = omega arith in
         subst (λ n. IsChoiceOf asked rules m groups node rest n children) places
         (choice-skipped well children count (from + 1) (omega arith) (λ place other w l. unfit place other (omega arith) (omega arith)) step)
@@ -125,13 +125,12 @@ module _ (asked : List ℕ) (rules : List Rule) (m : MemoryParts) (groups : List
         (choice-skipped well children (rule - from) from (omega arith) (λ place other l k at f. can.least place other l (omega arith) at (fits-here other f)) is)
 
     -- and a candidate without a child
-    pub candidate-passed : (rule : ℕ) → (can : IsLeastRule (FitsFirst root first) rules from rule) → HasNoRuleChild m node rest can.rule → IsChoiceOf asked rules m groups node rest (rule + 1) children
+    pub candidate-passed : (rule : ℕ) → (can : IsLeastRule (FitsFirst root first) rules from rule) → HasNoRuleChild m node rest depth can.rule → IsChoiceOf asked rules m groups node rest (rule + 1) children
     candidate-passed rule can none_there = choice-passed rule can.rule children can.at none_there (to-candidate rule can)
 
     -- a candidate with a child gives the first one
-    pub candidate-taken : (rule depth : ℕ) (new : MemoryParts) (list : ℕ) → (can : IsLeastRule (FitsFirst root first) rules from rule) → HasRuleChild m node rest depth can.rule new list
-        → length groups ≡ depth → IsTakenChild rule children new list
-    candidate-taken rule depth new list can has size = choice-taken rule depth can.rule children new list can.at has (to-candidate rule can) size
+    pub candidate-taken : (rule : ℕ) (new : MemoryParts) (list : ℕ) → (can : IsLeastRule (FitsFirst root first) rules from rule) → HasRuleChild m node rest depth can.rule new list → IsTakenChild rule children new list
+    candidate-taken rule new list can has = choice-taken rule can.rule children new list can.at has (to-candidate rule can)
 
     -- where there is no candidate nothing is left
     pub candidates-ended : HasNone (FitsFirst root first) rules from → children ≡ []

@@ -18,23 +18,23 @@ module _ (rules : List Rule) (well : All IsRule rules) (m : MemoryParts) (node r
     (is_first : first ≡ first_of_node m.system node) where
   -- what the call had left from the first place on it has left from a later one on
   abbrev pub Passes : ℕ → Type 0
-  Passes from = (asked : List ℕ) (groups : List (List Alternative)) (children : List Alternative)
+  Passes from = (asked : List ℕ) (groups : List (List Alternative)) (children : List Alternative) → length groups ≡ depth
       → IsChoiceOf asked rules m groups node rest begin children → IsChoiceOf asked rules m groups node rest from children
 
   -- there is no further candidate
   pub tried-none : (from : ℕ) → Passes from → (new : MemoryParts) → new ≡ m → HasNone (FitsFirst root first) rules from → IsTried rules m node rest begin depth new None
   tried-none from passes new same none_left = (
     same,
-    λ asked groups children is size. candidates-ended asked rules m groups node rest well root first is_root is_first children from (passes asked groups children is) none_left,
+    λ asked groups children is size. candidates-ended asked rules m groups node rest depth size well root first is_root is_first children from (passes asked groups children size is) none_left,
   )
 
   module _ (from : ℕ) (passes : Passes from) (rule : ℕ) (can : IsLeastRule (FitsFirst root first) rules from rule) (flat : FlatRule)
       (is_flat : (written : Rule) → slice_get rules rule ≡ Some written → IsFlatRule written flat) (next : ℕ) (is_next : next ≡ rule + 1) where
     -- the candidate has no child
     pub passes-on : (new : MemoryParts) → IsTaken m node rest depth flat new None → Passes next
-    passes-on new taken asked groups children is =
+    passes-on new taken asked groups children size is =
         subst (λ n. IsChoiceOf asked rules m groups node rest n children) (sym is_next)
-        (candidate-passed asked rules m groups node rest well root first is_root is_first children from (passes asked groups children is) rule can
+        (candidate-passed asked rules m groups node rest depth size well root first is_root is_first children from (passes asked groups children size is) rule can
         (taken.1 can.rule (rule-at rules rule can.rule can.at well) (is_flat can.rule can.at)))
 
     pub next-within : next ≤ length rules
@@ -47,14 +47,14 @@ module _ (rules : List Rule) (well : All IsRule rules) (m : MemoryParts) (node r
       taken.0,
       taken.1,
       λ asked groups children is size.
-          let found = candidate-taken asked rules m groups node rest well root first is_root is_first children from (passes asked groups children is) rule depth new list can
-          (taken.2 can.rule (rule-at rules rule can.rule can.at well) (is_flat can.rule can.at)) size in
+          let found = candidate-taken asked rules m groups node rest depth size well root first is_root is_first children from (passes asked groups children size is) rule new list can
+          (taken.2 can.rule (rule-at rules rule can.rule can.at well) (is_flat can.rule can.at)) in
           record {
             first = found.first;
             later = found.later;
             children_are = found.children_are;
             holds = found.holds;
-            left_are = left-after asked rules m groups node rest well root first is_root is_first found.later next
+            left_are = left-after asked rules m groups node rest depth size well root first is_root is_first found.later next
                 (subst (λ n. IsChoiceOf asked rules m groups node rest n found.later) (sym is_next) found.left) left later;
           },
     )

@@ -121,6 +121,6 @@ module _ (asked : List ℕ) (m : MemoryParts) (groups : List (List Alternative))
       (λ own of. first-allowed eq call rule v well.head.1 argument own (first-shows label argument e f) below-head (ap label_of_first (sym arguments) ∙ of)))
 
 -- a rule that doesn't fit has no child
-pub unfit-childless : (m : MemoryParts) (node rest : ℕ) (rule : Rule) → IsRule rule → (FitsFirst (root_of_node m.system node) (first_of_node m.system node) rule → ⊥) → HasNoRuleChild m node rest rule
-unfit-childless m node rest rule well unfit asked groups parent call others held child is =
+pub unfit-childless : (m : MemoryParts) (node rest depth : ℕ) (rule : Rule) → IsRule rule → (FitsFirst (root_of_node m.system node) (first_of_node m.system node) rule → ⊥) → HasNoRuleChild m node rest depth rule
+unfit-childless m node rest depth rule well unfit asked groups parent call others held size child is =
     unfit (child-fits asked m groups node rest parent call others held (length (alternatives_of groups)) rule child well is)

@@ -5,3 +5,4 @@ pub mod States
 pub mod Searching
 pub mod Stepping
 pub mod Reached
+pub mod Asking

@@ -1,6 +1,7 @@
 //! The derivation machine, one alternative at a time.
 #![tactic(auto)]
 
+mod copying;
 mod machine;
 mod saying;
 mod searching;

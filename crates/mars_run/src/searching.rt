@@ -2,7 +2,7 @@
 ghost use Rattle.std.specs.Prelude.{◌≡◌, ◌+◌, ◌≤◌, length, All, IfOk, OnOk};
 ghost use Rattle.mars_term.specs.Clauses.{IsRule};
 ghost use Rattle.mars_memory.specs.Memory.{memory_undone, IsMemoryMark};
-ghost use Rattle.mars_memory.specs.Found.{HasCall};
+ghost use Rattle.mars_memory.specs.Found.{HasCallAt};
 ghost use Rattle.mars_run.specs.States.{HasChoices};
 ghost use Rattle.mars_run.specs.Searching.{IsTried, with_left, IsChosen, GoesBack, GoesDown};
 
@@ -35,7 +35,7 @@ fn try_rules(
     registers: &mut Registers,
 ) -> Result<Option<(GoalList, Option<usize>)>, NoMemory>
     requires rules { All IsRule rules.now.rules }
-    requires held { HasCall memory.old choice.now.call choice.now.rest }
+    requires held { HasCallAt memory.old choice.now.call choice.now.rest depth }
     requires within { choice.now.from ≤ length rules.now.rules }
     ensures { IfOk result (IsTried rules.now.rules memory.old choice.now.call choice.now.rest choice.now.from depth memory.new) }
 {
@@ -85,7 +85,7 @@ fn choose(
     registers: &mut Registers,
 ) -> Result<Option<GoalList>, NoMemory>
     requires rules { All IsRule rules.now.rules }
-    requires held { HasCall memory.old choice.now.call choice.now.rest }
+    requires held { HasCallAt memory.old choice.now.call choice.now.rest (length points.old) }
     requires within { choice.now.from ≤ length rules.now.rules }
     requires made { IsMemoryMark memory.old choice.now.mark }
     requires back { memory_undone memory.old choice.now.mark ≡ memory.old }
@@ -138,7 +138,7 @@ pub(crate) fn call_rules(
     registers: &mut Registers,
 ) -> Result<Option<GoalList>, NoMemory>
     requires rules { All IsRule rules.now.rules }
-    requires held { HasCall memory.old node rest }
+    requires held { HasCallAt memory.old node rest (length points.old) }
     requires choices { HasChoices rules.now.rules memory.old points.old }
     ensures { IfOk result (GoesDown rules.now.rules memory.old points.old node rest memory.new points.new) }
 {

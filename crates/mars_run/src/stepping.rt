@@ -2,7 +2,7 @@
 ghost use Rattle.std.specs.Prelude.{◌<◌, length, All, IfOk, MatchOption};
 ghost use Rattle.mars_term.specs.Clauses.{IsRule};
 ghost use Rattle.mars_machine.specs.BuiltIns.{HasBuiltIn};
-ghost use Rattle.mars_memory.specs.Found.{HasCall, IsCallOf};
+ghost use Rattle.mars_memory.specs.Found.{HasCallAt, IsCallOf};
 ghost use Rattle.mars_run.specs.States.{HasState, HasChoices};
 ghost use Rattle.mars_run.specs.Stepping.{IsStepped, IsCalled, IsOfRules, HasAnswer, IsAnswered, HasGoal, IsDown};
 
@@ -43,7 +43,7 @@ fn step_built_in(
 ) -> Result<Step, NoMemory>
     requires rules { All IsRule rules.now.rules }
     requires has { HasBuiltIn rules.now.version built_in }
-    requires held { HasCall memory.old node rest }
+    requires held { HasCallAt memory.old node rest (length points.old) }
     requires label { IsCallOf memory.old node built_in }
     requires choices { HasChoices rules.now.rules memory.old points.old }
     ensures { IfOk result (λ step. IsCalled rules.now memory.old points.old node rest step.0 memory.new points.new step.1) }
@@ -69,7 +69,7 @@ fn step_call(
     rest: GoalList,
 ) -> Result<Step, NoMemory>
     requires rules { All IsRule rules.now.rules }
-    requires held { HasCall memory.old node rest }
+    requires held { HasCallAt memory.old node rest (length points.old) }
     requires choices { HasChoices rules.now.rules memory.old points.old }
     ensures { IfOk result (λ step. IsCalled rules.now memory.old points.old node rest step.0 memory.new points.new step.1) }
 {

@@ -1,5 +1,6 @@
-use Rattle.std.proofs.Common.{refl}
+use Rattle.std.proofs.Common.{length, refl, sym}
 use Rattle.mars_goals.specs.declared.choice.Choice.{Choice}
+use Rattle.mars_run.proofs.Stacks.{one-each}
 use Rattle.mars_run.proofs.Backtracking.{popped, choice-held, ends-back, top-of, passed-back, went-back}
 use Rattle.mars_run.proofs.searching.next_alternative.Goals as goal
 
@@ -13,7 +14,8 @@ choose-requires-clause-held c =
     let latest = c.in-Some.latest in
     let t = top-of c.args.rules.now.rules c.args.memory.now c.args.points.now c.points.memory c.points.points c.points.invariant latest latest c.pop.new.self c.in-Some.ensures
     c.undo_to.new.self c.undo_to.ensures refl refl refl c.requires.choices.asked c.requires.choices.groups c.requires.choices.choices_are in
-    choice-held c.requires.choices.asked c.args.rules.now.rules c.undo_to.new.self t.below latest.call latest.rest latest.from t.children t.top
+    choice-held c.requires.choices.asked c.args.rules.now.rules c.undo_to.new.self t.below latest.call latest.rest latest.from (length c.pop.new.self) t.children t.top
+    (sym (one-each c.requires.choices.asked c.args.rules.now.rules c.undo_to.new.self c.pop.new.self t.below t.before))
 
 pub choose-requires-clause-within : goal.choose-requires-clause-within
 choose-requires-clause-within c =

@@ -2,17 +2,27 @@ use Rattle.std.proofs.Common.{◌<◌, length, subst, arith, Some, None}
 use Rattle.std.proofs.lemmas.Option.{slice_get_within}
 use Rattle.mars_memory.specs.Found.{IsTaken}
 use Rattle.mars_run.proofs.Unfit.{held-inside}
+use Rattle.mars_run.proofs.Scanning.{rule-at}
 use Rattle.mars_run.proofs.Trying.{tried-none, passes-on, next-within, tried-one}
 use Rattle.mars_run.proofs.searching.try_rules.Goals as goal
 
 pub root_label-root-requires : goal.root_label-root-requires
-root_label-root-requires c = held-inside c.args.memory.now c.args.choice.now.call c.args.choice.now.rest c.requires.held
+root_label-root-requires c = held-inside c.args.memory.now c.args.choice.now.call c.args.choice.now.rest c.requires.held.has
 
 pub first_label-first-requires : goal.first_label-first-requires
-first_label-first-requires c = held-inside c.args.memory.now c.args.choice.now.call c.args.choice.now.rest c.requires.held
+first_label-first-requires c = held-inside c.args.memory.now c.args.choice.now.call c.args.choice.now.rest c.requires.held.has
 
 pub flat-flat-requires : goal.flat-flat-requires
 flat-flat-requires c = slice_get_within c.args.rules.now.rules c.in-Some.rule c.in-Some.ensures.rule c.in-Some.ensures.at
+
+pub take_rule-requires-clause-rule : goal.take_rule-requires-clause-rule
+take_rule-requires-clause-rule c =
+    let can = c.in-Some.ensures in
+    record {
+      rule = can.rule;
+      is_rule = rule-at c.args.rules.now.rules c.in-Some.rule can.rule can.at c.requires.rules;
+      is_flat = c.flat-flat.ensures can.rule can.at;
+    }
 
 pub returns-in-Some-2 : goal.returns-in-Some-2
 returns-in-Some-2 c =

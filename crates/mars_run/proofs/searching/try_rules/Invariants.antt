@@ -8,7 +8,7 @@ abbrev pub invariant-rules : goal.invariant-rules
 invariant-rules l = record {
   memory : l.memory ≡ l.fn.memory;
   within : l.from ≤ length l.rules.rules;
-  left : (asked : List ℕ) (groups : List (List Alternative)) (children : List Alternative)
+  left : (asked : List ℕ) (groups : List (List Alternative)) (children : List Alternative) → length groups ≡ l.depth
       → IsChoiceOf asked l.rules.rules l.fn.memory groups l.choice.call l.choice.rest l.choice.from children
       → IsChoiceOf asked l.rules.rules l.fn.memory groups l.choice.call l.choice.rest l.from children;
 }
