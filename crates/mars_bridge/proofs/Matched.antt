@@ -50,7 +50,7 @@ split-last P xs x h =
     (subst (All P) same front, All-contains P (xs ++ x ∷ []) x h (Contains-push xs x))
 
 -- a register's node
-register-is : (registers : List (Option ℕ)) (place n : ℕ) → HasNode registers place n → register_at registers place ≡ n
+pub register-is : (registers : List (Option ℕ)) (place n : ℕ) → HasNode registers place n → register_at registers place ≡ n
 register-is registers place n h = ap (λ o. unwrap_or o 0) (get_or_from_slice_get registers place (Some n) None h)
 
 later-continues : (v u : Valuation) → IsLater v u → Continues v u

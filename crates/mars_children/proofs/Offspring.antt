@@ -70,7 +70,7 @@ add-variables (suc count) e s vars r scoped sound =
     }
 
 -- pairs that denoted still do
-keep-pairs : (e f : Equations) (s t : System) (vars all : List ℕ) (next : ℕ) → ((n : ℕ) (subject : Subject) → UsesBelow next subject → Denotes e s vars n subject → Denotes f t all n subject)
+pub keep-pairs : (e f : Equations) (s t : System) (vars all : List ℕ) (next : ℕ) → ((n : ℕ) (subject : Subject) → UsesBelow next subject → Denotes e s vars n subject → Denotes f t all n subject)
     → (nodes : List (ℕ × ℕ)) (pairs : List (Subject × Subject)) → All (PairUsesBelow next) pairs → DenotePairs e s vars nodes pairs → DenotePairs f t all nodes pairs
 keep-pairs e f s t vars all next keep [] [] uses h = tt
 keep-pairs e f s t vars all next keep [] (p ∷ pairs) uses h = absurd h
@@ -81,7 +81,7 @@ keep-pairs e f s t vars all next keep (n ∷ nodes) (p ∷ pairs) uses h =
       keep-pairs e f s t vars all next keep nodes pairs (All-tail (PairUsesBelow next) p pairs uses) h.1,
     )
 
-pairs-inside : (e : Equations) (s : System) (vars : List ℕ) (nodes : List (ℕ × ℕ)) (pairs : List (Subject × Subject)) → DenotePairs e s vars nodes pairs → All (IsInside s) nodes
+pub pairs-inside : (e : Equations) (s : System) (vars : List ℕ) (nodes : List (ℕ × ℕ)) (pairs : List (Subject × Subject)) → DenotePairs e s vars nodes pairs → All (IsInside s) nodes
 pairs-inside e s vars [] [] h = All-nil (IsInside s)
 pairs-inside e s vars [] (p ∷ pairs) h = absurd h
 pairs-inside e s vars (n ∷ nodes) [] h = absurd h
@@ -106,11 +106,11 @@ decide-waking e s vars r sound (n ∷ nodes) (p ∷ pairs) h =
       | inl free ↦ record { woken = rest.woken; left = p ∷ rest.left; wakes = wake-waits (λ k. none-some k.0 (sym free ∙ (root k.0).1 k.1)) rest.wakes }
     ]
 
-weaken : (e : Equations) (differ : List (Subject × Subject)) → AreSolvable e differ → AreSolvable e []
+pub weaken : (e : Equations) (differ : List (Subject × Subject)) → AreSolvable e differ → AreSolvable e []
 weaken e differ h = record { v = h.v; solves = h.solves; apart = All-nil (λ pair. HaveOneTree e.kept h.v pair → ⊥) }
 
 -- where the equations of the call by the rule have a solution, the head has the label that is forced
-may-take : (e : Equations) (call : Subject) (rule : Rule) (differ : List (Subject × Subject)) → IsScoped e → UsesBelow e.next call → IsRule rule → AreSolvable (called_equations e call rule) differ → MayTake e call rule
+pub may-take : (e : Equations) (call : Subject) (rule : Rule) (differ : List (Subject × Subject)) → IsScoped e → UsesBelow e.next call → IsRule rule → AreSolvable (called_equations e call rule) differ → MayTake e call rule
 may-take e call rule differ scoped uses is k l f =
     let w = k.v in
     let both = split-last (HaveOneTree e.kept w) e.equal (call, Renamed e.next rule.head) k.solves.equal in

@@ -97,9 +97,10 @@ impl RuleBase {
         })
     }
 
-    /// The version by which the rules are read.
+    /// The version by which the rules are read. They are well formed.
     pub fn version(&self) -> Version
-        ensures { result ≡ self.now.version }
+        ensures version { result ≡ self.now.version }
+        ensures rules { All IsRule self.now.rules }
     {
         self.version
     }

@@ -1,0 +1,11 @@
+pub mod Undone
+pub mod Stacks
+pub mod Unfit
+pub mod Scanning
+pub mod Backtracking
+pub mod Trying
+pub mod Calling
+pub mod Going
+pub mod Reaching
+pub mod Asked
+pub mod Starting
