@@ -81,9 +81,11 @@ fn run_ask(
     let end = other.run(alloc, plain, BUDGET, ask.most)?;
     let asked = asked_of(alloc, base, ask, BUDGET)?;
     count(&asked, tally);
-    Ok(asked.steps == other.steps
-        && is_end(asked.ending, end)
-        && are_alike(asked.said.as_slice(), &other.said))
+    Ok(
+        asked.steps == other.steps
+            && is_end(asked.ending, end)
+            && are_alike(asked.said.as_slice(), &other.said),
+    )
 }
 
 /// Whether both runs ended in the same way.
