@@ -3,13 +3,13 @@ ghost use Rattle.mars_scripts.specs.WellFormed.{IsWellFormedInput};
 
 use crate::asked::asked_of;
 use crate::drawn::drawn_text;
+use crate::plain::{PlainEnd, PlainMachine, PlainRule, PlainSaid, plain_ask, plain_rules};
 use crate::tally::Tally;
 use mars_machine::{Asked, Ending, Stepped};
 use mars_read::read_input;
 use mars_rules::RuleBase;
 use mars_script::{Command, Input};
 use mars_term::Ask;
-use plain_machine::{PlainEnd, PlainMachine, PlainRule, PlainSaid, plain_ask, plain_rules};
 use rows::{Draw, Stop, push_number, read_numbers};
 use std::alloc::Global;
 

@@ -5,6 +5,7 @@
 mod asked;
 mod beside;
 mod drawn;
+mod plain;
 mod tally;
 
 use asked::answer_input;

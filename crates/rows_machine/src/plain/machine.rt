@@ -1,11 +1,11 @@
 //! Steps and runs.
-use crate::alternatives::{
+use crate::plain::alternatives::{
     Plain, after_first, child_under, opened_body, with_arguments, with_goals,
 };
-use crate::answers::{PlainAnswer, answer_of, tree_of};
-use crate::equations::{are_apart, solved};
-use crate::goals::{Atom, Flat, PlainGoal, PlainOpen, renamed};
-use crate::written::PlainRule;
+use crate::plain::answers::{PlainAnswer, answer_of, tree_of};
+use crate::plain::equations::{are_apart, solved};
+use crate::plain::goals::{Atom, Flat, PlainGoal, PlainOpen, renamed};
+use crate::plain::written::PlainRule;
 use mars_base::NoMemory;
 use mars_canon::Canon;
 use rows::Stop;
@@ -13,14 +13,14 @@ use std::alloc::Global;
 
 /// What a step says.
 #[derive(Drop)]
-pub enum PlainSaid {
+pub(crate) enum PlainSaid {
     Tree(Canon),
     Answer(PlainAnswer),
 }
 
 /// How a run ends.
 #[derive(Clone, Copy, Debug, PartialEq, Eq)]
-pub enum PlainEnd {
+pub(crate) enum PlainEnd {
     End,
     Enough,
     Stopped,
@@ -28,11 +28,11 @@ pub enum PlainEnd {
 
 /// The alternatives that are left, the first one last; what was said; how many steps were made, and how many answers came.
 #[derive(Drop)]
-pub struct PlainMachine {
+pub(crate) struct PlainMachine {
     state: Vec<Plain>,
     vars: u32,
-    pub said: Vec<PlainSaid>,
-    pub steps: u64,
+    pub(crate) said: Vec<PlainSaid>,
+    pub(crate) steps: u64,
     answers: u64,
 }
 
@@ -49,7 +49,11 @@ const OUT: u32 = 6;
 
 impl PlainMachine {
     /// The state with which an ask of some goals over so many variables starts.
-    pub fn start(alloc: Global, goals: &[PlainGoal], vars: u32) -> Result<PlainMachine, NoMemory> {
+    pub(crate) fn start(
+        alloc: Global,
+        goals: &[PlainGoal],
+        vars: u32,
+    ) -> Result<PlainMachine, NoMemory> {
         let mut state = Vec::new(alloc);
         state.push(Plain {
             goals: opened_body(alloc, goals, 0, 0)?,
@@ -68,7 +72,7 @@ impl PlainMachine {
     }
 
     /// Runs until so many answers came, no alternative is left, or so many steps were made.
-    pub fn run(
+    pub(crate) fn run(
         &mut self,
         alloc: Global,
         rules: &[PlainRule],

@@ -1,6 +1,6 @@
 //! Answers and trees as canonical graphs.
-use crate::equations::Classes;
-use crate::goals::{Atom, Flat};
+use crate::plain::equations::Classes;
+use crate::plain::goals::{Atom, Flat};
 use mars_base::NoMemory;
 use mars_canon::Canon;
 use mars_tree::{Graph, Label, NameId};
@@ -9,10 +9,10 @@ use std::alloc::Global;
 
 /// The canonical graph of an answer's roots, and how many open inequations and frozen pairs there are.
 #[derive(Drop)]
-pub struct PlainAnswer {
-    pub canon: Canon,
-    pub difs: usize,
-    pub frozen: usize,
+pub(crate) struct PlainAnswer {
+    pub(crate) canon: Canon,
+    pub(crate) difs: usize,
+    pub(crate) frozen: usize,
 }
 
 /// A graph, and the nodes of the variables that have one.

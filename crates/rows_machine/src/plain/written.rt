@@ -1,5 +1,5 @@
 //! Rules and asks of the plain machine, out of those that were read.
-use crate::goals::{Atom, Flat, PlainGoal};
+use crate::plain::goals::{Atom, Flat, PlainGoal};
 use mars_term::{Ask, Goal, Rule, Term};
 use mars_tree::NameId;
 use rows::Stop;
@@ -7,14 +7,14 @@ use std::alloc::Global;
 
 /// A rule: its head, its body, and how many variables it has.
 #[derive(Drop)]
-pub struct PlainRule {
-    pub head: Flat,
-    pub body: Vec<PlainGoal>,
-    pub vars: u32,
+pub(crate) struct PlainRule {
+    pub(crate) head: Flat,
+    pub(crate) body: Vec<PlainGoal>,
+    pub(crate) vars: u32,
 }
 
 /// Rules, in order.
-pub type PlainProgram = Vec<PlainRule>;
+pub(crate) type PlainProgram = Vec<PlainRule>;
 
 /// The place of the name `freeze`.
 const FREEZE: u32 = 2;
@@ -102,7 +102,7 @@ fn rule_of(alloc: Global, rule: &Rule) -> Result<PlainRule, Stop> {
 }
 
 /// The rules, where each of their terms is a name over at most two variables and names of no arguments.
-pub fn plain_rules(alloc: Global, rules: &[Rule]) -> Result<PlainProgram, Stop> {
+pub(crate) fn plain_rules(alloc: Global, rules: &[Rule]) -> Result<PlainProgram, Stop> {
     let mut all = Vec::new(alloc);
     for rule in rules {
         all.push(rule_of(alloc, rule)?)?;
@@ -111,6 +111,6 @@ pub fn plain_rules(alloc: Global, rules: &[Rule]) -> Result<PlainProgram, Stop> 
 }
 
 /// The goals of an ask, with the same condition.
-pub fn plain_ask(alloc: Global, ask: &Ask) -> Result<Vec<PlainGoal>, Stop> {
+pub(crate) fn plain_ask(alloc: Global, ask: &Ask) -> Result<Vec<PlainGoal>, Stop> {
     goals_of(alloc, ask.goals.as_slice())
 }

@@ -1,5 +1,5 @@
 //! What equations between atoms say, found anew each time.
-use crate::goals::{Atom, Flat};
+use crate::plain::goals::{Atom, Flat};
 use mars_base::NoMemory;
 use std::alloc::Global;
 

@@ -2,22 +2,22 @@
 
 /// A variable, by its number, or a name of no arguments.
 #[derive(Clone, Copy, Debug, PartialEq, Eq)]
-pub enum Atom {
+pub(crate) enum Atom {
     Var(u32),
     Name(u32),
 }
 
 /// A name over at most two atoms.
 #[derive(Clone, Copy, Debug, PartialEq, Eq)]
-pub struct Flat {
-    pub name: u32,
-    pub first: Option<Atom>,
-    pub second: Option<Atom>,
+pub(crate) struct Flat {
+    pub(crate) name: u32,
+    pub(crate) first: Option<Atom>,
+    pub(crate) second: Option<Atom>,
 }
 
 /// A goal of a rule or an ask.
 #[derive(Clone, Copy, Debug, PartialEq, Eq)]
-pub enum PlainGoal {
+pub(crate) enum PlainGoal {
     Call(Flat),
     Freeze(Atom, Flat),
     Cut,
@@ -25,7 +25,7 @@ pub enum PlainGoal {
 
 /// A goal that is still open: a cut has the height down to which it cuts.
 #[derive(Clone, Copy, Debug, PartialEq, Eq)]
-pub enum PlainOpen {
+pub(crate) enum PlainOpen {
     Call(Flat),
     Freeze(Atom, Flat),
     CutTo(usize),

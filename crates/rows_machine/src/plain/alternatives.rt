@@ -1,6 +1,6 @@
 //! Alternatives, and what is made of them.
-use crate::equations::{Classes, are_apart, solved};
-use crate::goals::{Atom, Flat, PlainGoal, PlainOpen, opened};
+use crate::plain::equations::{Classes, are_apart, solved};
+use crate::plain::goals::{Atom, Flat, PlainGoal, PlainOpen, opened};
 use mars_base::NoMemory;
 use std::alloc::Global;
 
