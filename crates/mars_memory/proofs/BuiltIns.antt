@@ -1,29 +1,27 @@
 -- Built-ins that change no equation: which alternative is held after a call of one.
-use Rattle.std.proofs.Common.{◌≡◌, ◌≢◌, ℕ, ◌<◌, ◌≤◌, List, [], ◌∷◌, ◌++◌, length, take, slice_get, All, Some, None, refl, sym, ap, ◌∙◌, subst, arith, length-append}
-use Rattle.std.proofs.lemmas.Option.{none-some, same_Some}
+use Rattle.std.proofs.Common.{◌≡◌, ◌≢◌, ℕ, ◌<◌, List, [], ◌∷◌, ◌++◌, length, slice_get, All, Some, None, refl, sym, ap, ◌∙◌, subst, arith, length-append}
+use Rattle.std.proofs.lemmas.Option.{none-some}
 use Rattle.std.proofs.Math.Seq.{get_or-append_seam}
 use Rattle.std.proofs.lemmas.List.{take-append-le, take_all}
-use Rattle.std.proofs.lemmas.List.Elements.{All-push, All-nil, All-cons, All-contains, Contains-push, All-weaker}
+use Rattle.std.proofs.lemmas.List.Elements.{All-push, All-nil, All-cons, All-contains, Contains-push}
 use Rattle.mars_tree.specs.declared.label.Label.{Label}
 use Rattle.mars_tree.specs.declared.label.Label.TheVariants.{Str}
 use Rattle.mars_tree.specs.declared.label.NameId.{NameId}
 use Rattle.mars_tree.specs.Graph.{label_of, kids_of}
 use Rattle.mars_store.specs.System.{System, IsSystem, resolve}
-use Rattle.mars_store.specs.Laws.{IsImplied, IsSolvable}
+use Rattle.mars_store.specs.Laws.{IsImplied}
 use Rattle.mars_store.proofs.CallerLemmas.{grows-refl, difs_independent}
 use Rattle.mars_dif.specs.declared.dif.Dif.{Dif}
 use Rattle.mars_dif.specs.declared.dif.Dif.TheVariants as dif
-use Rattle.mars_dif.specs.Inside.{IsInside}
 use Rattle.mars_dif.specs.Told.{IsTold}
 use Rattle.mars_dif.specs.Kept.{Kept, IsCurrent, IsKeeper, IsAfter, with_dif}
 use Rattle.mars_dif.proofs.CallerLemmas.{keeper_current, after-same}
-use Rattle.mars_frozen.specs.Freezing.{FrozenPairs, with_frozen, waiting_pairs, IsLaterFrozen}
+use Rattle.mars_frozen.specs.Freezing.{with_frozen, waiting_pairs, IsLaterFrozen}
 use Rattle.mars_frozen.proofs.CallerLemmas.{frozen_adds, later-all}
 use Rattle.mars_rules.proofs.Paired.{paired-push}
 use Rattle.mars_goals.specs.GoalLists.{list_at}
 use Rattle.mars_goals.specs.declared.cells.Pending.{Pending}
 use Rattle.mars_goals.specs.declared.cells.Pending.TheVariants as pending
-use Rattle.mars_goals.proofs.CallerLemmas.{list_kept}
 use Rattle.mars_machine.specs.declared.built_in.BuiltIn.{BuiltIn}
 use Rattle.mars_machine.specs.declared.built_in.BuiltIn.TheVariants.{Dif as DifCall, Freeze, Bound, Free, Out, OutText}
 use Rattle.mars_machine.specs.Subjects.{Subject, Part}
@@ -31,16 +29,16 @@ use Rattle.mars_machine.specs.Equations.{Equations, AreSolvable, HaveOneTree, Fo
 use Rattle.mars_machine.specs.Alternatives.{OpenGoal, Call, Alternative}
 use Rattle.mars_machine.specs.BuiltIns.{IsBuiltInChild, built_in_label}
 use Rattle.mars_machine.specs.BuiltIns.IsBuiltInChild.{apart, called, frozen, bound, free, out, out_text}
-use Rattle.mars_bridge.specs.Represents.{Represents, Denotes, DenotePairs, DenotesPair}
-use Rattle.mars_bridge.specs.Scoped.{UsesBelow, PairUsesBelow}
+use Rattle.mars_bridge.specs.Represents.{Represents, DenotePairs, DenotesPair}
+use Rattle.mars_bridge.specs.Scoped.{PairUsesBelow}
 use Rattle.mars_bridge.proofs.Carried.{implied_iff, solvable_iff}
 use Rattle.mars_bridge.proofs.Parts.{root_iff}
 use Rattle.mars_memory.specs.Memory.{MemoryParts, root_of_node, IsLaterMemory}
-use Rattle.mars_memory.specs.Holding.{DenoteGoals, Writes, Holds}
+use Rattle.mars_memory.specs.Holding.{Holds}
 use Rattle.mars_memory.specs.Holding.DenoteGoals.{calls}
-use Rattle.mars_memory.specs.Found.{HoldsCall, HasCall, IsCallOf, HoldsBuiltInChild, IsDone}
+use Rattle.mars_memory.specs.Found.{HoldsCall, HasCall, IsCallOf, IsDone}
 use Rattle.mars_memory.proofs.Marks.{later-memory}
-use Rattle.mars_memory.proofs.Calls.{held-call, held-argument, gone-on}
+use Rattle.mars_memory.proofs.Calls.{put-goals, held-call, held-argument, gone-on}
 
 -- the kid at a place of a call
 abbrev pub kid_is : MemoryParts → ℕ → ℕ → ℕ → Type 0
@@ -129,52 +127,6 @@ module _ (m : MemoryParts) (node rest left right : ℕ) (label : Label) (is : la
 abbrev pub with_list : MemoryParts → List Pending → MemoryParts
 with_list m goals = record m { lists = m.lists ++ goals ∷ [] }
 
--- goals that were written are so whatever goal lists there are
-pub written-anywhere : (asked : List ℕ) (m : MemoryParts) (lists : List (List Pending)) (groups : List (List Alternative)) (goals : List Pending) (alternative : Alternative)
-    → Holds asked m groups goals alternative → Holds asked (record m { lists = lists }) groups goals alternative
-written-anywhere asked m lists groups goals alternative h = let w = h.writes in record {
-  writes = record {
-    sound = w.sound;
-    vars = w.vars;
-    represents = w.represents;
-    scoped = w.scoped;
-    asked_are = w.asked_are;
-    asked_use = w.asked_use;
-    added = w.added;
-    keeper = w.keeper;
-    differ = w.differ;
-    differ_use = w.differ_use;
-    can_wake = w.can_wake;
-    frozen = w.frozen;
-    frozen_use = w.frozen_use;
-    goals_are = w.goals_are;
-  };
-  solvable = h.solvable;
-}
-
--- the alternative has these goals instead, which are denoted
-pub with-goals : (asked : List ℕ) (m : MemoryParts) (groups : List (List Alternative)) (goals new : List Pending) (alternative : Alternative) (opened : List OpenGoal) (h : Holds asked m groups goals alternative)
-    → DenoteGoals alternative.equations m.system (h.writes.vars) groups (length groups) new opened → Holds asked m groups new (record alternative { goals = opened })
-with-goals asked m groups goals new alternative opened h are = let w = h.writes in record {
-  writes = record {
-    sound = w.sound;
-    vars = w.vars;
-    represents = w.represents;
-    scoped = w.scoped;
-    asked_are = w.asked_are;
-    asked_use = w.asked_use;
-    added = w.added;
-    keeper = w.keeper;
-    differ = w.differ;
-    differ_use = w.differ_use;
-    can_wake = w.can_wake;
-    frozen = w.frozen;
-    frozen_use = w.frozen_use;
-    goals_are = are;
-  };
-  solvable = h.solvable;
-}
-
 -- with a list more the others are as before
 pub later-list : (m : MemoryParts) (goals : List Pending) → IsLaterMemory m (with_list m goals)
 later-list m goals = record {
@@ -203,8 +155,7 @@ module _ (m : MemoryParts) (node rest left right : ℕ) (has : HasCall m node re
           child = record parent { goals = Call (Part call 1) ∷ others };
           is_child = called (known-first m node rest left (built_in_label Freeze) is at_left asked groups parent call others h own root);
           holds = subst (λ goals. Holds asked (with_list m new) groups goals (record parent { goals = Call (Part call 1) ∷ others })) (sym (ap (list_at (m.lists ++ new ∷ [])) e ∙ list-last m.lists new))
-              (written-anywhere asked m (m.lists ++ new ∷ []) groups new (record parent { goals = Call (Part call 1) ∷ others })
-              (with-goals asked m groups (pending.Call node ∷ list_at m.lists rest) new parent (Call (Part call 1) ∷ others) h.holds (calls both.second d.uses d.others_are)));
+              (put-goals asked m groups (pending.Call node ∷ list_at m.lists rest) parent h.holds (m.lists ++ new ∷ []) new (Call (Part call 1) ∷ others) (calls both.second d.uses d.others_are));
         },
   )
 

@@ -1,24 +1,21 @@
 -- Calls that are held: their nodes and the nodes of their arguments, and what is held after them.
-use Rattle.std.proofs.Common.{◌≡◌, ℕ, ◌<◌, List, [], ◌∷◌, ◌++◌, length, slice_get, Some, ap, ◌∙◌, subst}
-use Rattle.std.proofs.lemmas.List.Elements.{All-nil, All-cons}
+use Rattle.std.proofs.Common.{◌≡◌, ℕ, ◌<◌, List, ◌∷◌, length, slice_get, Some, ap, ◌∙◌, subst}
 use Rattle.mars_tree.specs.declared.label.Label.{Label}
 use Rattle.mars_tree.specs.Graph.{label_of, kids_of, arity_at}
 use Rattle.mars_store.specs.System.{System, IsSystem, resolve}
-use Rattle.mars_store.proofs.CallerLemmas.{label-within}
-use Rattle.mars_dif.specs.Inside.{IsInside}
 use Rattle.mars_goals.specs.GoalLists.{list_at}
 use Rattle.mars_goals.specs.declared.cells.Pending.{Pending}
 use Rattle.mars_goals.specs.declared.cells.Pending.TheVariants as pending
 use Rattle.mars_machine.specs.declared.built_in.BuiltIn.{BuiltIn}
 use Rattle.mars_machine.specs.Subjects.{Subject, Part}
-use Rattle.mars_machine.specs.Equations.{Equations, AreSolvable, HaveOneTree}
+use Rattle.mars_machine.specs.Equations.{Equations}
 use Rattle.mars_machine.specs.Alternatives.{OpenGoal, Call, Alternative}
-use Rattle.mars_machine.specs.BuiltIns.{built_in_label, built_in_arity}
-use Rattle.mars_bridge.specs.Represents.{Denotes, DenotePairs}
+use Rattle.mars_machine.specs.BuiltIns.{built_in_arity}
+use Rattle.mars_bridge.specs.Represents.{Denotes}
 use Rattle.mars_bridge.specs.Scoped.{UsesBelow}
 use Rattle.mars_bridge.proofs.Parts.{part_denoted}
 use Rattle.mars_memory.specs.Memory.{MemoryParts}
-use Rattle.mars_memory.specs.Holding.{DenoteGoals, Writes, Holds}
+use Rattle.mars_memory.specs.Holding.{DenoteGoals, Holds}
 use Rattle.mars_memory.specs.Holding.DenoteGoals.{calls}
 use Rattle.mars_memory.specs.Found.{HoldsCall, HasCall, IsCallOf}
 
@@ -31,6 +28,30 @@ pub record IsCallDenoted (e : Equations) (system : System) (vars : List ℕ) (gr
 call-denoted : (e : Equations) (system : System) (vars : List ℕ) (groups : List (List Alternative)) (limit node : ℕ) (more : List Pending) (call : Subject) (others : List OpenGoal)
     → DenoteGoals e system vars groups limit (pending.Call node ∷ more) (Call call ∷ others) → IsCallDenoted e system vars groups limit node more call others
 call-denoted e system vars groups limit node more call others (calls d u rest) = record { call_is = d; uses = u; others_are = rest }
+
+-- an alternative that is held is so with other goals, which are denoted, whatever goal lists there are
+abbrev pub put-goals : (asked : List ℕ) (m : MemoryParts) (groups : List (List Alternative)) (goals : List Pending) (a : Alternative) (h : Holds asked m groups goals a)
+    → (lists : List (List Pending)) (new : List Pending) (opens : List OpenGoal) → DenoteGoals a.equations m.system (h.writes.vars) groups (length groups) new opens
+    → Holds asked (record m { lists = lists }) groups new (record a { goals = opens })
+put-goals asked m groups goals a h lists new opens are = let w = h.writes in record {
+  writes = record {
+    sound = w.sound;
+    vars = w.vars;
+    represents = w.represents;
+    scoped = w.scoped;
+    asked_are = w.asked_are;
+    asked_use = w.asked_use;
+    added = w.added;
+    keeper = w.keeper;
+    differ = w.differ;
+    differ_use = w.differ_use;
+    can_wake = w.can_wake;
+    frozen = w.frozen;
+    frozen_use = w.frozen_use;
+    goals_are = are;
+  };
+  solvable = h.solvable;
+}
 
 module _ (asked : List ℕ) (m : MemoryParts) (groups : List (List Alternative)) (node rest : ℕ) (parent : Alternative) (call : Subject) (others : List OpenGoal)
     (h : HoldsCall asked m groups node rest parent call others) where
@@ -46,25 +67,7 @@ module _ (asked : List ℕ) (m : MemoryParts) (groups : List (List Alternative))
 
   -- the call is done, and nothing else changed
   abbrev pub gone-on : Holds asked m groups (list_at m.lists rest) (record parent { goals = others })
-  gone-on = let w = h.holds.writes in record {
-    writes = record {
-      sound = w.sound;
-      vars = w.vars;
-      represents = w.represents;
-      scoped = w.scoped;
-      asked_are = w.asked_are;
-      asked_use = w.asked_use;
-      added = w.added;
-      keeper = w.keeper;
-      differ = w.differ;
-      differ_use = w.differ_use;
-      can_wake = w.can_wake;
-      frozen = w.frozen;
-      frozen_use = w.frozen_use;
-      goals_are = held-call.others_are;
-    };
-    solvable = h.holds.solvable;
-  }
+  gone-on = put-goals asked m groups (pending.Call node ∷ list_at m.lists rest) parent h.holds m.lists (list_at m.lists rest) others held-call.others_are
 
 -- a call is a node of the memory, and the list after it one of its lists
 pub call-inside : (m : MemoryParts) (node rest : ℕ) → HasCall m node rest → node < length m.system.nodes

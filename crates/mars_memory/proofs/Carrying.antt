@@ -1,6 +1,5 @@
 -- An alternative that is written, after nodes were added or made equal.
-use Rattle.std.proofs.Common.{◌≡◌, ℕ, ◌+◌, ◌<◌, ◌≤◌, List, [], ◌∷◌, length, map, get_or, All, refl, sym, ap, ◌∙◌, subst, arith, zero-add}
-use Rattle.std.specs.List.{range_with_len}
+use Rattle.std.proofs.Common.{◌≡◌, ℕ, ◌+◌, ◌<◌, ◌≤◌, List, [], ◌∷◌, length, All, refl, sym, subst, arith, zero-add}
 use Rattle.std.proofs.lemmas.List.Elements.{All-nil, All-cons, All-head, All-tail, All-weaker, All-from_get_or}
 use Rattle.std.proofs.lemmas.List.FromFn.{get_or-map-range_with_len, length-map-range_with_len}
 use Rattle.mars_store.specs.System.{System, IsSystem, Grows}
@@ -8,7 +7,7 @@ use Rattle.mars_dif.specs.Kept.{IsKeeper}
 use Rattle.mars_dif.proofs.CallerLemmas.{keeper_grows}
 use Rattle.mars_frozen.specs.Freezing.{CanWake, waiting_pairs}
 use Rattle.mars_frozen.proofs.CallerLemmas.{frozen_grows}
-use Rattle.mars_term.specs.declared.term.Term.{Term, Var}
+use Rattle.mars_term.specs.declared.term.Term.{Var}
 use Rattle.mars_term.specs.Parts.{number_of_var, number_of_kept}
 use Rattle.mars_goals.specs.declared.cells.Pending.{Pending}
 use Rattle.mars_machine.specs.Subjects.{Subject, Renamed}
@@ -16,7 +15,7 @@ use Rattle.mars_machine.specs.Equations.{Equations}
 use Rattle.mars_machine.specs.Alternatives.{OpenGoal, Alternative}
 use Rattle.mars_machine.specs.TermAnswers.{ask_variables}
 use Rattle.mars_bridge.specs.Represents.{Represents, Denotes, DenotePairs, DenoteAll}
-use Rattle.mars_bridge.specs.Scoped.{UsesBelow, PairUsesBelow, IsScoped, IsTermOver}
+use Rattle.mars_bridge.specs.Scoped.{UsesBelow, PairUsesBelow, IsScoped}
 use Rattle.mars_bridge.proofs.Building.{uses_more, uses_renamed}
 use Rattle.mars_children.proofs.Offspring.{keep-pairs}
 use Rattle.mars_memory.specs.Memory.{MemoryParts}

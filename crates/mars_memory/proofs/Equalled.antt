@@ -1,20 +1,19 @@
 -- Built-ins that make nodes equal: which alternative is held after a call of one.
-use Rattle.std.proofs.Common.{◌≡◌, ◌↔◌, ℕ, ℤ, ◌+◌, ◌<◌, ◌≤◌, List, [], ◌∷◌, ◌++◌, length, take, map, get_or, All, Option, Some, None, refl, sym, ap, ◌∙◌, subst, arith}
+use Rattle.std.proofs.Common.{◌≡◌, ◌↔◌, ℕ, ℤ, ◌+◌, ◌<◌, List, [], ◌∷◌, ◌++◌, length, take, map, get_or, All, Option, Some, None, refl, sym, ap, ◌∙◌, subst, arith}
 use Rattle.std.proofs.Math.Seq.{get_or-append_seam}
 use Rattle.std.proofs.lemmas.List.{take_all}
 use Rattle.std.proofs.lemmas.List.Elements.{All-nil, All-cons}
-use Rattle.mars_tree.specs.declared.label.Label.{Label}
 use Rattle.mars_tree.specs.declared.label.Label.TheVariants as label
-use Rattle.mars_tree.specs.Graph.{Node, IsNode, labelled, free_leaf, kids_of, label_of}
-use Rattle.mars_store.specs.System.{System, IsSystem, Grows, with_node, resolve}
-use Rattle.mars_store.proofs.CallerLemmas.{grows-refl, grows-node, system-node}
+use Rattle.mars_tree.specs.Graph.{Node, IsNode, labelled, free_leaf}
+use Rattle.mars_store.specs.System.{System, IsSystem, Grows, with_node}
+use Rattle.mars_store.proofs.CallerLemmas.{grows-node, system-node}
 use Rattle.mars_dif.proofs.CallerLemmas.{after-same}
 use Rattle.mars_frozen.proofs.CallerLemmas.{later-all}
 use Rattle.mars_unify.specs.Unified.{Extends, IsSolved, AreApart}
 use Rattle.mars_val.specs.Number.{HasNumber}
 use Rattle.mars_val.proofs.Numbers.{number_is_one}
 use Rattle.mars_term.specs.declared.term.Term.{Int}
-use Rattle.mars_term.specs.Parts.{parts_of, number_of_var}
+use Rattle.mars_term.specs.Parts.{number_of_var}
 use Rattle.mars_rules.specs.TermTrees.{arguments_of}
 use Rattle.mars_rules.proofs.TermFacts.{label-Int, arguments-Int}
 use Rattle.mars_goals.specs.declared.cells.Pending.{Pending}
@@ -32,9 +31,9 @@ use Rattle.mars_bridge.proofs.Numbers.{number_iff}
 use Rattle.mars_bridge.proofs.Building.{node_keeps, label_denotes, equal_scoped}
 use Rattle.mars_children.proofs.Offspring.{weaken}
 use Rattle.mars_memory.specs.Memory.{MemoryParts, IsLaterMemory}
-use Rattle.mars_memory.specs.Holding.{Writes, Holds}
-use Rattle.mars_memory.specs.Found.{HasWritten, IsSettled, HoldsCall, HasCall, IsCallOf, IsDone, HoldsBuiltInChild}
-use Rattle.mars_memory.specs.BuiltInsInside.{WritesPair, HasPair, HoldsUnder, IsMadeEqual}
+use Rattle.mars_memory.specs.Holding.{Writes}
+use Rattle.mars_memory.specs.Found.{HasWritten, IsSettled, HoldsCall, HasCall, IsCallOf, IsDone}
+use Rattle.mars_memory.specs.BuiltInsInside.{WritesPair, HasPair, IsMadeEqual}
 use Rattle.mars_memory.proofs.Marks.{later-memory, later_memory_follows}
 use Rattle.mars_memory.proofs.Carrying.{Carries, carried, keep_goals}
 use Rattle.mars_memory.proofs.Calls.{held-call, held-argument, gone-on}

@@ -3,6 +3,7 @@ pub mod Calls
 pub mod Equalled
 pub mod Marks
 pub mod Pushing
+pub mod Told
 pub mod Settled
 pub mod Carrying
 pub mod Trying

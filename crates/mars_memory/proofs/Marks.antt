@@ -5,7 +5,7 @@ use Rattle.mars_goals.specs.declared.cells.Pending.{Pending}
 use Rattle.mars_store.proofs.CallerLemmas.{mark_kept, grows-refl, grows-trans}
 use Rattle.mars_dif.proofs.CallerLemmas.{mark_kept as difs-kept, after-then, after-same}
 use Rattle.mars_frozen.proofs.CallerLemmas.{mark_kept as frozen-kept, later_follows, later-all}
-use Rattle.mars_memory.specs.Memory.{MemoryParts, memory_undone, IsMemoryMark, IsLaterMemory}
+use Rattle.mars_memory.specs.Memory.{MemoryParts, memory_undone, IsLaterMemory}
 use Rattle.mars_memory.specs.MemoryLaws.{MemoryMarkKept, LaterMemoryFollows}
 
 -- memories are the same where their parts are

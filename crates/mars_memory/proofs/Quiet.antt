@@ -11,8 +11,6 @@ use Rattle.mars_dif.proofs.Apart.{not-both}
 use Rattle.mars_dif.proofs.Growing.{apart-grows, inside-grows}
 use Rattle.mars_frozen.specs.Freezing.{waiting_pairs}
 use Rattle.mars_rules.specs.PairedLists.{AllPaired}
-use Rattle.mars_machine.specs.Subjects.{Subject}
-use Rattle.mars_machine.specs.Equations.{Equations}
 use Rattle.mars_machine.specs.Children.{Wakes}
 use Rattle.mars_machine.specs.Children.Wakes.{none as wake-none}
 use Rattle.mars_bridge.specs.Represents.{DenotesPair}

@@ -1,5 +1,5 @@
 -- An alternative that is written, after its inequations were looked at and its goals woke.
-use Rattle.std.proofs.Common.{◌≡◌, ℕ, ◌<◌, ◌≤◌, Bool, true, false, List, [], ◌∷◌, ◌++◌, length, take, map, All, refl, sym, ap, ◌∙◌, subst, arith, Some, None}
+use Rattle.std.proofs.Common.{◌≡◌, ℕ, ◌≤◌, true, false, List, [], ◌∷◌, ◌++◌, length, take, map, All, refl, sym, ap, ◌∙◌, subst, arith, Some, None}
 use Rattle.std.proofs.lemmas.Bool.{false≢true}
 use Rattle.std.proofs.lemmas.List.{take_all}
 use Rattle.std.proofs.lemmas.List.Elements.{All-nil, All-cons, All-head, All-tail}
@@ -7,16 +7,16 @@ use Rattle.mars_store.specs.System.{System, Grows}
 use Rattle.mars_store.proofs.CallerLemmas.{grows-refl}
 use Rattle.mars_dif.specs.Kept.{IsKeeper, IsCurrent, IsRechecked, IsAfter}
 use Rattle.mars_dif.proofs.CallerLemmas.{keeper_current}
-use Rattle.mars_frozen.specs.Freezing.{FrozenPairs, AreWoken, CanWake, IsLaterFrozen, waiting_pairs}
+use Rattle.mars_frozen.specs.Freezing.{AreWoken, CanWake, IsLaterFrozen, waiting_pairs}
 use Rattle.mars_frozen.proofs.CallerLemmas.{later-all}
 use Rattle.mars_goals.specs.declared.cells.Pending.{Pending}
 use Rattle.mars_goals.specs.GoalLists.{list_at}
 use Rattle.mars_machine.specs.Subjects.{Subject}
-use Rattle.mars_machine.specs.Equations.{Equations, AreSolvable}
+use Rattle.mars_machine.specs.Equations.{Equations}
 use Rattle.mars_machine.specs.Alternatives.{OpenGoal, Call, Alternative}
 use Rattle.mars_machine.specs.Children.{Wakes}
 use Rattle.mars_machine.specs.Children.Wakes.{none as wake-none, wakes as wake-wakes, waits as wake-waits}
-use Rattle.mars_bridge.specs.Represents.{Denotes, DenoteAll}
+use Rattle.mars_bridge.specs.Represents.{DenoteAll}
 use Rattle.mars_bridge.specs.Scoped.{UsesBelow, PairUsesBelow}
 use Rattle.mars_bridge.proofs.Carried.{solvable_iff}
 use Rattle.mars_bridge.proofs.Woken.{waking_told}

@@ -1,8 +1,8 @@
 -- A rule that is tried on a call: what was matched and built writes the child by the rule.
-use Rattle.std.proofs.Common.{◌≡◌, ℕ, ◌+◌, ◌-◌, ◌<◌, ◌≤◌, List, [], ◌∷◌, ◌++◌, length, take, drop, map, All, Option, Some, None, refl, sym, ap, ◌∙◌, subst, arith}
+use Rattle.std.proofs.Common.{◌≡◌, ℕ, ◌+◌, ◌-◌, ◌≤◌, List, [], ◌∷◌, ◌++◌, length, take, drop, All, Option, Some, None, refl, sym, ap, ◌∙◌, subst, arith}
 use Rattle.std.specs.List.{flat_map}
 use Rattle.std.proofs.lemmas.List.Elements.{All-head, All-tail}
-use Rattle.mars_store.specs.System.{System, IsSystem}
+use Rattle.mars_store.specs.System.{System}
 use Rattle.mars_store.proofs.CallerLemmas.{grows-trans}
 use Rattle.mars_dif.specs.Kept.{IsAfter}
 use Rattle.mars_dif.proofs.CallerLemmas.{after-same}
@@ -13,7 +13,7 @@ use Rattle.mars_term.specs.declared.clause.Goal.TheVariants as goal
 use Rattle.mars_term.specs.declared.clause.Rule.{Rule}
 use Rattle.mars_term.specs.Clauses.{IsRule, parts_of_goal}
 use Rattle.mars_term.specs.Parts.{parts_of}
-use Rattle.mars_matching.specs.Matched.{HasNode, IsMatched, IsRefused, IsBodyBuilt}
+use Rattle.mars_matching.specs.Matched.{IsMatched, IsRefused}
 use Rattle.mars_rules.specs.PairedLists.{AllPaired}
 use Rattle.mars_rules.specs.LayingInside.{IsRulePart}
 use Rattle.mars_rules.specs.TakenRules.{HasGoalNode}
@@ -28,21 +28,21 @@ use Rattle.mars_goals.specs.declared.cells.Pending.TheVariants as pending
 use Rattle.mars_goals.specs.declared.choice.MachineMark.{MachineMark}
 use Rattle.mars_goals.specs.GoalLists.{list_at}
 use Rattle.mars_machine.specs.Subjects.{Subject, Renamed}
-use Rattle.mars_machine.specs.Equations.{Equations, AreSolvable}
-use Rattle.mars_machine.specs.Alternatives.{OpenGoal, Call, Alternative, opened_goal, opened_goals}
-use Rattle.mars_machine.specs.Children.{called_equations, IsRuleChild}
+use Rattle.mars_machine.specs.Equations.{Equations}
+use Rattle.mars_machine.specs.Alternatives.{OpenGoal, Call, Alternative, opened_goals}
+use Rattle.mars_machine.specs.Children.{called_equations}
 use Rattle.mars_bridge.specs.Represents.{Denotes}
 use Rattle.mars_bridge.specs.Scoped.{UsesBelow}
-use Rattle.mars_bridge.specs.MatchedLaws.{register_at, register_nodes, IsHeldGoal, IsCalledBy}
+use Rattle.mars_bridge.specs.MatchedLaws.{register_nodes, IsHeldGoal}
 use Rattle.mars_bridge.proofs.Building.{uses_more, uses_renamed, call_scoped}
 use Rattle.mars_bridge.proofs.Copied.{over-parts}
 use Rattle.mars_bridge.proofs.Matched.{called_by, refused_unsolvable, register-is}
 use Rattle.mars_children.proofs.Offspring.{weaken, may-take}
 use Rattle.mars_memory.specs.Memory.{MemoryParts, memory_undone, IsMemoryMark, IsLaterMemory}
-use Rattle.mars_memory.specs.Holding.{alternatives_of, height_of, DenoteGoals, Writes, Holds}
-use Rattle.mars_memory.specs.Holding.DenoteGoals.{none, calls, cuts}
-use Rattle.mars_memory.specs.Found.{HoldsCall, HasCall, HasCallAt, HasRule, HasWritten, HasNoRuleChild, HasRuleChild, HoldsRuleChild, IsTaken, IsSettled, Settles}
-use Rattle.mars_memory.specs.ListsInside.{ArePushed, pending_of, pendings_of}
+use Rattle.mars_memory.specs.Holding.{alternatives_of, height_of, DenoteGoals, Writes}
+use Rattle.mars_memory.specs.Holding.DenoteGoals.{calls, cuts}
+use Rattle.mars_memory.specs.Found.{HoldsCall, HasCallAt, HasRule, HasWritten, IsTaken, IsSettled}
+use Rattle.mars_memory.specs.ListsInside.{pendings_of}
 use Rattle.mars_memory.specs.TakingInside.{IsBodyWritten}
 use Rattle.mars_memory.proofs.Marks.{memory_mark_kept, later_memory_follows}
 use Rattle.mars_memory.proofs.Carrying.{Carries, keep_goals, carried}

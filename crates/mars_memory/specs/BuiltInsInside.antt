@@ -1,5 +1,5 @@
 -- Inside: two nodes of a memory that are made equal for a call.
-use Rattle.std.specs.Prelude.{◌≡◌, ℕ, ◌<◌, List, length, Option, Some, None}
+use Rattle.std.specs.Prelude.{ℕ, ◌<◌, List, length, Option, Some, None}
 use Rattle.mars_goals.specs.GoalLists.{list_at}
 use Rattle.mars_machine.specs.Subjects.{Subject}
 use Rattle.mars_machine.specs.Equations.{Equations, AreSolvable, with_equality}

@@ -15,7 +15,9 @@ use mars_tree::Label;
 use mars_unify::Unified;
 use std::alloc::Global;
 
-/// Calls a built-in before a list: `None` exactly where the call has no child, and else the goals of the child.
+/// Calls a built-in before a list: `None` exactly where the call has no child, and else the goals of the child. It takes what
+/// `unify` or `eval` takes, and for an inequation what its keeper takes; else it is linear in the links of the arguments. The
+/// only error is out of memory.
 pub fn call_built_in(
     alloc: Global,
     memory: &mut Memory,

@@ -1,5 +1,5 @@
-//! What calls of built-ins ask of a memory, and change in it.
-ghost use Rattle.std.specs.Prelude.{◌≡◌, ℕ, ◌<◌, ◌∷◌, [], List, Some, ◌++◌, length, slice_get, IfOk, OnOk, OnErr, MatchOption};
+//! What calls of built-ins and answers ask of a memory, and change in it.
+ghost use Rattle.std.specs.Prelude.{◌≡◌, ℕ, ◌<◌, ◌∷◌, [], List, All, Some, ◌++◌, length, slice_get, IfOk, OnOk, OnErr, MatchOption};
 ghost use Rattle.mars_tree.specs.declared.label.Label.TheVariants.{Str};
 ghost use Rattle.mars_tree.specs.declared.label.NameId.{NameId};
 ghost use Rattle.mars_tree.specs.Label.{arity_of};
@@ -7,15 +7,18 @@ ghost use Rattle.mars_tree.specs.Graph.{kids_of, labelled};
 ghost use Rattle.mars_store.specs.System.{IsSystem, resolve, with_node};
 ghost use Rattle.mars_unify.specs.Unified.{OnYes, OnNo, IsSolved, Extends, AreApart};
 ghost use Rattle.mars_val.specs.Number.{IsNumberOf};
+ghost use Rattle.mars_answer.specs.Answer.{IsAnswerGraph, ArePairsInside, roots_of};
 ghost use Rattle.mars_dif.specs.Told.{IsTold};
-ghost use Rattle.mars_dif.specs.Kept.{IsCurrent, IsKeeper, Serves, with_dif, IsAfter};
-ghost use Rattle.mars_frozen.specs.Freezing.{with_frozen, IsLaterFrozen};
+ghost use Rattle.mars_dif.specs.Kept.{IsCurrent, IsKeeper, Serves, with_dif, waiting_of, IsRechecked, IsAfter};
+ghost use Rattle.mars_frozen.specs.Freezing.{with_frozen, waiting_pairs, IsLaterFrozen};
 ghost use Rattle.mars_goals.specs.declared.cells.Pending.TheVariants.{Call};
 ghost use Rattle.mars_goals.specs.GoalLists.{list_at};
 ghost use Rattle.mars_memory.specs.Memory.{root_of_node};
 
 use crate::memory::Memory;
+use mars_answer::{Answer, answer};
 use mars_base::NoMemory;
+use mars_canon::Canon;
 use mars_dif::Dif;
 use mars_goals::{GoalList, Pending};
 use mars_store::NodeId;
@@ -112,5 +115,44 @@ impl Memory {
         ensures others { self.new ≡ record self.old { system = self.new.system } }
     {
         unify(alloc, &mut self.store, left, right)
+    }
+
+    /// What is known of a node's tree. Linear in what it reaches, and then what `canon` takes.
+    pub(crate) fn tree_at(&self, alloc: Global, node: NodeId) -> Result<Canon, NoMemory>
+        requires { node < length self.now.system.nodes }
+        ensures { IfOk result (λ canon. IsAnswerGraph self.now.system (node ∷ []) canon) }
+    {
+        Ok(answer(alloc, &self.store, &[node], &[], &[])?.canon)
+    }
+
+    /// Looks again at the inequations, so that those that wait are the open ones, and says whether each can still hold.
+    pub(crate) fn look_again(&mut self) -> Result<bool, NoMemory>
+        requires { Serves self.old.difs self.old.system }
+        ensures fine { IfOk result (λ fine. (added : List (ℕ × ℕ)) → IsKeeper self.old.difs self.old.system added → IsRechecked self.old.system added fine) }
+        ensures current { OnOk result ((added : List (ℕ × ℕ)) → IsKeeper self.old.difs self.old.system added → IsCurrent self.new.difs self.old.system added) }
+        ensures after { IsAfter self.old.difs self.new.difs }
+        ensures others { self.new ≡ record self.old { difs = self.new.difs } }
+    {
+        self.inequations.recheck(&mut self.store)
+    }
+
+    /// What is known of nodes, of the inequations that wait and of the frozen pairs. Linear in what these reach, and then what
+    /// `canon` takes.
+    pub(crate) fn answer_at(&self, alloc: Global, asked: &[NodeId]) -> Result<Answer, NoMemory>
+        requires asked { All (λ node. node < length self.now.system.nodes) asked.now }
+        requires difs { All (ArePairsInside self.now.system) (waiting_of self.now.difs) }
+        requires frozen { All (ArePairsInside self.now.system) (waiting_pairs self.now.frozen) }
+        ensures answer { IfOk result (λ a. IsAnswerGraph self.now.system (roots_of asked.now (waiting_of self.now.difs) (waiting_pairs self.now.frozen)) a.canon) }
+        ensures vars { IfOk result (λ a. a.vars ≡ length asked.now) }
+        ensures difs { IfOk result (λ a. a.difs ≡ length (waiting_of self.now.difs)) }
+        ensures frozen { IfOk result (λ a. a.frozen ≡ length (waiting_pairs self.now.frozen)) }
+    {
+        answer(
+            alloc,
+            &self.store,
+            asked,
+            self.inequations.waiting(),
+            self.frozen.waiting(),
+        )
     }
 }

@@ -1,6 +1,6 @@
 -- Terms, as they are written.
 use Rattle.std.proofs.Common.{◌≡◌, ℕ, ℤ, zero, suc, ◌+◌, ◌<◌, ◌≤◌, ◌^◌, List, [], ◌∷◌, ◌++◌, length, take, length-append, get_or, slice_get, Some, Result, Ok, Err, option_and_then, All, refl, sym, ap, ◌∙◌, subst, arith}
-use Rattle.std.specs.Result.{IfOk}
+use Rattle.std.specs.Result.{IfOk, OnOk}
 use Rattle.std.proofs.lemmas.List.{get_or_at, get_or_default}
 use Rattle.std.proofs.lemmas.List.Elements.{All-cons, All-nil, All-head, All-get_or}
 use Rattle.std.proofs.lemmas.Option.{slice_get-get_or}
@@ -161,14 +161,14 @@ pub tuple-fits : (vars kept : ℕ) (term : Term) (terms : List Term) → term �
 tuple-fits vars kept term terms is parts = short-tuple terms (subst (λ t. HasShortList t) is (own-part (IsAskPart vars kept) term parts).short)
 
 -- terms by their kinds
-pub name-written : (old now new : System) (vars kept : List ℕ) (term : Term) (name : NameId) (terms : List Term) (arity : ℕ) (kids found : List ℕ) (n : ℕ) → HasNames old vars kept
+name-written : (old now new : System) (vars kept : List ℕ) (term : Term) (name : NameId) (terms : List Term) (arity : ℕ) (kids found : List ℕ) (n : ℕ) → HasNames old vars kept
     → AreTermsWritten old now vars kept terms kids → term ≡ Name name terms → arity ≡ length terms → found ≡ kids → new ≡ with_node now (labelled (label.Name name arity) found) → n ≡ length now.nodes
     → IsTermWritten old new vars kept term n
 name-written old now new vars kept term name terms arity kids found n names all is size same made at =
     term-written old now new vars kept term (label.Name name arity) terms kids found n names all
     (ap label_of_term is ∙ label-Name name terms ∙ ap (λ n. Some (label.Name name n)) (sym size)) (ap arguments_of is ∙ arguments-Name name terms) (sym size) same made at
 
-pub tuple-written : (old now new : System) (vars kept : List ℕ) (term : Term) (terms : List Term) (arity : ℕ) (kids found : List ℕ) (n : ℕ) → HasNames old vars kept
+tuple-written : (old now new : System) (vars kept : List ℕ) (term : Term) (terms : List Term) (arity : ℕ) (kids found : List ℕ) (n : ℕ) → HasNames old vars kept
     → AreTermsWritten old now vars kept terms kids → term ≡ Tup terms → arity ≡ length terms → found ≡ kids → new ≡ with_node now (labelled (label.Tup arity) found) → n ≡ length now.nodes
     → IsTermWritten old new vars kept term n
 tuple-written old now new vars kept term terms arity kids found n names all is size same made at =
@@ -184,3 +184,22 @@ pub string-written : (old new : System) (vars kept : List ℕ) (term : Term) (na
     → new ≡ with_node old (labelled (label.Str name) kids) → n ≡ length old.nodes → IsTermWritten old new vars kept term n
 string-written old new vars kept term name kids n names is same made at =
     leaf-written old new vars kept term (label.Str name) kids n names (ap label_of_term is ∙ label-Str name) (ap arguments_of is ∙ arguments-Str name) refl same made at
+
+-- the same of an answer, where the terms that were written are those of a list
+pub name-added : {E : Type 0} (old now new : System) (vars kept : List ℕ) (term : Term) (name : NameId) (terms listed : List Term) (arity : ℕ) (kids found : List ℕ) (r : Result ℕ E) → HasNames old vars kept
+    → AreTermsWritten old now vars kept listed kids → listed ≡ terms → term ≡ Name name terms → arity ≡ length kids → found ≡ kids → IfOk r (λ n. n ≡ length now.nodes)
+    → OnOk r (new ≡ with_node now (labelled (label.Name name arity) found)) → IfOk r (λ n. IsTermWritten old new vars kept term n)
+name-added old now new vars kept term name terms listed arity kids found r names all e is size same at made =
+    ok-by-both r (λ n. n ≡ length now.nodes) (λ n. new ≡ with_node now (labelled (label.Name name arity) found)) (λ n. IsTermWritten old new vars kept term n)
+    (λ n here there.
+    let whole : AreTermsWritten old now vars kept terms kids = subst (λ ts. AreTermsWritten old now vars kept ts kids) e all in
+    name-written old now new vars kept term name terms arity kids found n names whole is (size ∙ sym (paired-size (ShowsTerm now vars kept) terms kids whole.shows)) same there here) at made
+
+pub tuple-added : {E : Type 0} (old now new : System) (vars kept : List ℕ) (term : Term) (terms listed : List Term) (arity : ℕ) (kids found : List ℕ) (r : Result ℕ E) → HasNames old vars kept
+    → AreTermsWritten old now vars kept listed kids → listed ≡ terms → term ≡ Tup terms → arity ≡ length kids → found ≡ kids → IfOk r (λ n. n ≡ length now.nodes)
+    → OnOk r (new ≡ with_node now (labelled (label.Tup arity) found)) → IfOk r (λ n. IsTermWritten old new vars kept term n)
+tuple-added old now new vars kept term terms listed arity kids found r names all e is size same at made =
+    ok-by-both r (λ n. n ≡ length now.nodes) (λ n. new ≡ with_node now (labelled (label.Tup arity) found)) (λ n. IsTermWritten old new vars kept term n)
+    (λ n here there.
+    let whole : AreTermsWritten old now vars kept terms kids = subst (λ ts. AreTermsWritten old now vars kept ts kids) e all in
+    tuple-written old now new vars kept term terms arity kids found n names whole is (size ∙ sym (paired-size (ShowsTerm now vars kept) terms kids whole.shows)) same there here) at made

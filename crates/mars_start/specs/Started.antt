@@ -12,8 +12,8 @@ use Rattle.mars_machine.specs.TermAnswers.{ask_variables}
 use Rattle.mars_bridge.specs.Represents.{Represents, Denotes, DenoteAll}
 use Rattle.mars_bridge.specs.Scoped.{UsesBelow, IsScoped}
 
--- a goal of the store is an open one of no height: for a call a node that denotes it, over variables that are in use, and for
--- a cut one that keeps no choice point
+-- a goal of a list is an open one of an ask's start: for a call a node that denotes it, over variables that are in use, and
+-- for a cut, whose height is 0, one that keeps no choice point
 abbrev pub IsFirstGoal : Equations → System → List ℕ → OpenGoal → Pending → Type 0
 IsFirstGoal e s vars (Call subject) (pending.Call node) = Denotes e s vars node subject × UsesBelow e.next subject
 IsFirstGoal e s vars (CutTo height) (pending.Cut depth) = (height ≡ 0) × (depth ≡ 0)

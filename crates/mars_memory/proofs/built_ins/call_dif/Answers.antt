@@ -11,11 +11,11 @@ pub argument-right-requires-clause-node : goal.argument-right-requires-clause-no
 argument-right-requires-clause-node c = call-inside _ _ _ c.requires.held
 
 pub returns-in-Fails : goal.returns-in-Fails
-returns-in-Fails c = 
+returns-in-Fails c =
     dif-fails c.args.memory.now c.args.node c.args.rest c.argument-left.result c.argument-right.result c.requires.held c.requires.label c.argument-left.ensures.kid c.argument-right.ensures.kid
     (subst (λ told. IsTold told c.args.memory.now.system c.argument-left.result c.argument-right.result) c.in-Fails.is c.in_ok-keep_apart.ensures.told) c.keep_apart.new.self c.keep_apart.ensures.others c.keep_apart.ensures.after
 
 pub returns-in_default : goal.returns-in_default
-returns-in_default c = 
+returns-in_default c =
     dif-goes c.args.memory.now c.args.node c.args.rest c.argument-left.result c.argument-right.result c.requires.held c.requires.label c.argument-left.ensures.kid c.argument-right.ensures.kid
     c.in_ok-keep_apart.field-0 c.in_default.not-Fails c.in_ok-keep_apart.ensures.told c.keep_apart.new.self c.keep_apart.ensures.others c.keep_apart.ensures.after c.in_ok-keep_apart.ensures.current

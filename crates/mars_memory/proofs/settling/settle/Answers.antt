@@ -1,5 +1,5 @@
-use Rattle.std.proofs.Common.{length, subst, refl, sym, Some, None}
-use Rattle.mars_dif.specs.Kept.{IsKeeper, IsRechecked}
+use Rattle.std.proofs.Common.{subst, refl, Some, None}
+use Rattle.mars_dif.specs.Kept.{IsRechecked}
 use Rattle.mars_frozen.specs.Freezing.{AreWoken, CanWake, waiting_pairs}
 use Rattle.mars_memory.specs.Memory.{MemoryParts}
 use Rattle.mars_memory.specs.Found.{IsSettled}

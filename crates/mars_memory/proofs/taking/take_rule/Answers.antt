@@ -1,8 +1,7 @@
-use Rattle.std.proofs.Common.{◌≡◌, ◌<◌, length, subst, sym, refl, ap, Some, None}
-use Rattle.mars_matching.specs.Matched.{IsMatched, IsRefused}
-use Rattle.mars_memory.specs.Memory.{MemoryParts, IsMemoryMark, memory_undone}
-use Rattle.mars_memory.specs.Found.{IsTaken, IsSettled, HasCallAt}
-use Rattle.mars_memory.specs.TakingInside.{IsBodyWritten}
+use Rattle.std.proofs.Common.{◌<◌, length, subst, sym, ap, None}
+use Rattle.mars_matching.specs.Matched.{IsMatched}
+use Rattle.mars_memory.specs.Memory.{MemoryParts}
+use Rattle.mars_memory.specs.Found.{IsTaken}
 use Rattle.mars_memory.proofs.Marks.{memory_mark_kept, later_memory_follows}
 use Rattle.mars_memory.proofs.Trying.{call_in, taken_none, taken_some, taken_undone, written_has, written_later}
 use Rattle.mars_memory.proofs.taking.take_rule.Goals as goal

@@ -1,5 +1,4 @@
-use Rattle.std.proofs.Common.{List, All, Option, ℕ, subst, sym, refl}
-use Rattle.mars_rules.specs.declared.flat.FlatGoal.{FlatGoal}
+use Rattle.std.proofs.Common.{All, subst, sym, refl}
 use Rattle.mars_rules.specs.TakenRules.{HasGoalNode}
 use Rattle.mars_rules.proofs.Taken.{built-nodes}
 use Rattle.mars_memory.specs.Memory.{MemoryParts}

@@ -7,9 +7,9 @@ use Rattle.mars_term.specs.Rows.{dots}
 use Rattle.mars_term.proofs.RowLemmas.{dots-push, dots-falls}
 use Rattle.mars_rules.proofs.Paired.{paired-size}
 use Rattle.mars_rules.proofs.RuleParts.{all-before, all-after, item-parts, name-parts, tuple-parts, dot-parts}
-use Rattle.mars_start.specs.WritingInside.{IsAskPart, ShowsTerm, IsTermWritten, AreTermsWritten}
+use Rattle.mars_start.specs.WritingInside.{IsAskPart, ShowsTerm, IsTermWritten}
 use Rattle.mars_start.proofs.Growing.{names-grow, inside-grows}
-use Rattle.mars_start.proofs.WrittenTerms.{shown-inside, none-written, written-next, written-whole, written-push, ok-by-both, name-fits, tuple-fits, name-written, tuple-written, integer-written, string-written, var-written, kept-written}
+use Rattle.mars_start.proofs.WrittenTerms.{shown-inside, none-written, written-next, written-whole, written-push, ok-by-both, name-fits, tuple-fits, name-added, tuple-added, integer-written, string-written, var-written, kept-written}
 use Rattle.mars_start.proofs.WrittenRows.{dots-written}
 use Rattle.mars_start.proofs.writing.+writing.Goals as goal
 
@@ -88,25 +88,15 @@ write_term-returns-in-Str t c =
 
 pub write_term-returns-in_ok-kids-in-Name : goal.write_term-returns-in_ok-kids-in-Name
 write_term-returns-in_ok-kids-in-Name t c =
-    let all : AreTermsWritten c.args.store.now c.write_terms.new.store c.args.vars.now c.args.kept.now c.in-Name.terms c.in_ok-kids-in-Name.kids.items =
-    subst (λ ts. AreTermsWritten c.args.store.now c.write_terms.new.store c.args.vars.now c.args.kept.now ts c.in_ok-kids-in-Name.kids.items) c.as_slice.ensures c.in_ok-kids-in-Name.ensures in
-    let size = paired-size (ShowsTerm c.write_terms.new.store c.args.vars.now c.args.kept.now) c.in-Name.terms c.in_ok-kids-in-Name.kids.items all.shows in
-    ok-by-both c.add-in-Name.result _ _ _
-    (λ node at made.
-    name-written c.args.store.now c.write_terms.new.store c.add-in-Name.new.self c.args.vars.now c.args.kept.now c.args.term.now c.in-Name.name c.in-Name.terms _ c.in_ok-kids-in-Name.kids.items c.deref.result.now node
-    c.requires.names all c.in-Name.is (omega (arith, size, c.len.ensures)) c.deref.ensures.value made at)
+    name-added c.args.store.now c.write_terms.new.store c.add-in-Name.new.self c.args.vars.now c.args.kept.now c.args.term.now c.in-Name.name c.in-Name.terms c.as_slice.result.now _
+    c.in_ok-kids-in-Name.kids.items c.deref.result.now c.add-in-Name.result c.requires.names c.in_ok-kids-in-Name.ensures c.as_slice.ensures c.in-Name.is (omega (arith, c.len.ensures)) c.deref.ensures.value
     c.add-in-Name.ensures.node c.add-in-Name.ensures.ok
 
 pub write_term-returns-in_ok-kids-in-Tup : goal.write_term-returns-in_ok-kids-in-Tup
 write_term-returns-in_ok-kids-in-Tup t c =
-    let all : AreTermsWritten c.args.store.now c.write_terms-in-Tup.new.store c.args.vars.now c.args.kept.now c.in-Tup.terms c.in_ok-kids-in-Tup.kids.items =
-    subst (λ ts. AreTermsWritten c.args.store.now c.write_terms-in-Tup.new.store c.args.vars.now c.args.kept.now ts c.in_ok-kids-in-Tup.kids.items) c.as_slice-in-Tup.ensures c.in_ok-kids-in-Tup.ensures in
-    let size = paired-size (ShowsTerm c.write_terms-in-Tup.new.store c.args.vars.now c.args.kept.now) c.in-Tup.terms c.in_ok-kids-in-Tup.kids.items all.shows in
-    ok-by-both c.add-in-Tup.result _ _ _
-    (λ node at made.
-    tuple-written c.args.store.now c.write_terms-in-Tup.new.store c.add-in-Tup.new.self c.args.vars.now c.args.kept.now c.args.term.now c.in-Tup.terms _ c.in_ok-kids-in-Tup.kids.items c.deref-in-Tup.result.now node
-    c.requires.names all c.in-Tup.is (omega (arith, size, c.len-in-Tup.ensures)) c.deref-in-Tup.ensures.value made at)
-    c.add-in-Tup.ensures.node c.add-in-Tup.ensures.ok
+    tuple-added c.args.store.now c.write_terms-in-Tup.new.store c.add-in-Tup.new.self c.args.vars.now c.args.kept.now c.args.term.now c.in-Tup.terms c.as_slice-in-Tup.result.now _
+    c.in_ok-kids-in-Tup.kids.items c.deref-in-Tup.result.now c.add-in-Tup.result c.requires.names c.in_ok-kids-in-Tup.ensures c.as_slice-in-Tup.ensures c.in-Tup.is (omega (arith, c.len-in-Tup.ensures))
+    c.deref-in-Tup.ensures.value c.add-in-Tup.ensures.node c.add-in-Tup.ensures.ok
 
 pub write_terms-write_term-requires : goal.write_terms-write_term-requires
 write_terms-write_term-requires t c =
