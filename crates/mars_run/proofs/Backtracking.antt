@@ -11,7 +11,7 @@ use Rattle.mars_memory.specs.Found.{HasCallAt}
 use Rattle.mars_run.specs.Choices.{IsChoiceOf, AreChoicesOf}
 use Rattle.mars_run.specs.Choices.AreChoicesOf.{none, more}
 use Rattle.mars_run.specs.States.{IsState, IsMachineState}
-use Rattle.mars_run.specs.Searching.{IsLeft, IsTried, with_left, IsChosen, GoesBack, GoesDown}
+use Rattle.mars_run.specs.Searching.{IsLeftOver, AreRulesTried, with_left, IsChildChosen, GoesBack, GoesDown}
 use Rattle.mars_run.proofs.Stacks.{holds-cons, one-each, choices-later, choices-pushed}
 
 -- the choice points after a choice was put back, or not
@@ -22,7 +22,7 @@ record IsPutBack (asked : List ℕ) (rules : List Rule) (m : MemoryParts) (group
   holds : (t : MemoryParts) (ps : List Pending) (a : Alternative) → Holds asked t groups ps a → Holds asked t all ps a
 
 put-back : (asked : List ℕ) (rules : List Rule) (m : MemoryParts) (c : Choice) (cs : List Choice) (gs : List (List Alternative)) (later : List Alternative) (left : Option ℕ)
-    → IsMemoryMark m c.mark → memory_undone m c.mark ≡ m → IsLeft asked rules m gs c.call c.rest left later → AreChoicesOf asked rules m cs gs
+    → IsMemoryMark m c.mark → memory_undone m c.mark ≡ m → IsLeftOver asked rules m gs c.call c.rest left later → AreChoicesOf asked rules m cs gs
     → IsPutBack asked rules m gs (with_left c left cs) later
 put-back asked rules m c cs gs later None made back is below = record { all = gs; are = below; same = ap (λ xs. xs ++ alternatives_of gs) (sym is); holds = λ t ps a h. h }
 put-back asked rules m c cs gs later (Some from) made back is below = record {
@@ -34,7 +34,7 @@ put-back asked rules m c cs gs later (Some from) made back is below = record {
 
 -- nothing was left of a choice
 pub chosen-none : (rules : List Rule) (old : MemoryParts) (choices : List Choice) (choice : Choice) (depth : ℕ) (new : MemoryParts) → depth ≡ length choices
-    → IsTried rules old choice.call choice.rest choice.from depth new None → IsChosen rules old choices choice new choices None
+    → AreRulesTried rules old choice.call choice.rest choice.from depth new None → IsChildChosen rules old choices choice new choices None
 chosen-none rules old choices choice depth new size tried = (
   tried.0,
   refl,
@@ -43,8 +43,8 @@ chosen-none rules old choices choice depth new size tried = (
 
 -- the next child of a choice was made
 pub chosen-one : (rules : List Rule) (old : MemoryParts) (choices kept : List Choice) (choice : Choice) (depth : ℕ) (new : MemoryParts) (list : ℕ) (left : Option ℕ) → depth ≡ length choices
-    → IsMemoryMark old choice.mark → memory_undone old choice.mark ≡ old → IsTried rules old choice.call choice.rest choice.from depth new (Some (list, left)) → kept ≡ with_left choice left choices
-    → IsChosen rules old choices choice new kept (Some list)
+    → IsMemoryMark old choice.mark → memory_undone old choice.mark ≡ old → AreRulesTried rules old choice.call choice.rest choice.from depth new (Some (list, left)) → kept ≡ with_left choice left choices
+    → IsChildChosen rules old choices choice new kept (Some list)
 chosen-one rules old choices kept choice depth new list left size made back tried keeps asked groups children are is =
     let found = tried.2 asked groups children is (sym (one-each asked rules old choices groups are) ∙ sym size) in
     let put = put-back asked rules old choice choices groups found.later left made back found.left_are are in
@@ -135,7 +135,7 @@ module _ (rules : List Rule) (old : MemoryParts) (choices : List Choice) (m : Me
         }
 
     -- nothing was left at the latest one
-    pub passed-back : (new : MemoryParts) (after : List Choice) → IsChosen rules undone cs choice new after None → KeepsChoices rules old choices new after
+    pub passed-back : (new : MemoryParts) (after : List Choice) → IsChildChosen rules undone cs choice new after None → KeepsChoices rules old choices new after
     passed-back new after chosen asked groups are =
         let t = top-of asked groups are in
         record {
@@ -145,14 +145,14 @@ module _ (rules : List Rule) (old : MemoryParts) (choices : List Choice) (m : Me
         }
 
     -- the next child of the latest one was made
-    pub went-back : (new : MemoryParts) (after : List Choice) (list : ℕ) → IsChosen rules undone cs choice new after (Some list) → GoesBack rules old choices new after (Some list)
+    pub went-back : (new : MemoryParts) (after : List Choice) (list : ℕ) → IsChildChosen rules undone cs choice new after (Some list) → GoesBack rules old choices new after (Some list)
     went-back new after list chosen asked groups are =
         let t = top-of asked groups are in
         subst (λ state. IsState asked rules new after list state) t.same (chosen asked t.below t.children t.before t.top)
 
 -- a call without children left leads back
 pub down-back : (rules : List Rule) (old mid : MemoryParts) (choices after : List Choice) (choice : Choice) (new : MemoryParts) (left : List Choice) (next : Option ℕ) (node rest : ℕ)
-    → choice.call ≡ node → choice.rest ≡ rest → choice.from ≡ 0 → IsChosen rules old choices choice mid after None → GoesBack rules mid after new left next
+    → choice.call ≡ node → choice.rest ≡ rest → choice.from ≡ 0 → IsChildChosen rules old choices choice mid after None → GoesBack rules mid after new left next
     → GoesDown rules old choices node rest new left next
 down-back rules old mid choices after choice new left next node rest c r f chosen back asked groups children are is =
     let own : IsChoiceOf asked rules old groups choice.call choice.rest choice.from children =
@@ -164,7 +164,7 @@ down-back rules old mid choices after choice new left next node rest c r f chose
     subst (λ xs. IsMachineState asked rules new left next (xs ++ alternatives_of groups)) (sym empty) (back asked groups now)
 
 pub down-one : (rules : List Rule) (old : MemoryParts) (choices : List Choice) (choice : Choice) (new : MemoryParts) (left : List Choice) (list : ℕ) (node rest : ℕ)
-    → choice.call ≡ node → choice.rest ≡ rest → choice.from ≡ 0 → IsChosen rules old choices choice new left (Some list) → GoesDown rules old choices node rest new left (Some list)
+    → choice.call ≡ node → choice.rest ≡ rest → choice.from ≡ 0 → IsChildChosen rules old choices choice new left (Some list) → GoesDown rules old choices node rest new left (Some list)
 down-one rules old choices choice new left list node rest c r f chosen asked groups children are is =
     chosen asked groups children are
     (subst (λ n. IsChoiceOf asked rules old groups n choice.rest choice.from children) (sym c)

@@ -22,7 +22,7 @@ use Rattle.mars_memory.specs.Found.{HoldsCall, HasCallAt, IsToldAnswer}
 use Rattle.mars_run.specs.Choices.{AreChoicesOf}
 use Rattle.mars_run.specs.States.{IsState, HasChoices}
 use Rattle.mars_run.specs.Searching.{GoesBack}
-use Rattle.mars_run.specs.Stepping.{StepsTo, IsStepped, IsCalled, HoldsGoals, IsAnswered, HasGoal, IsDown}
+use Rattle.mars_run.specs.Stepping.{StepsTo, IsStepMade, IsCalled, HoldsGoals, IsAnswerStep, HasGoal, IsDown}
 use Rattle.mars_run.proofs.Stacks.{writes-with, goals-moved, one-each, choices-later, choices-cut, alternatives-last, height-last}
 
 -- the first goal that some goals of a machine denote
@@ -123,7 +123,7 @@ cut-goes P m choices goal depth rest left e inside cut_is asked ask gs first hol
 
 -- an answer, after which the choice points go on
 pub answer-goes : (asked : List ℕ) (P : RuleList) (old mid : MemoryParts) (choices : List Choice) (told : Answer) (new : MemoryParts) (left : List Choice) (next : Option ℕ)
-    → IsToldAnswer old asked told → IsLaterMemory old mid → GoesBack P.rules mid choices new left next → IsAnswered asked P old choices (Answered told) new left next
+    → IsToldAnswer old asked told → IsLaterMemory old mid → GoesBack P.rules mid choices new left next → IsAnswerStep asked P old choices (Answered told) new left next
 answer-goes asked P old mid choices told new left next tells later back ask size groups first holds are =
     let w = holds.writes in
     record {
@@ -144,14 +144,14 @@ module _ (asked : List ℕ) (P : RuleList) (m : MemoryParts) (choices : List Cho
     choices_are = is.choices_are;
   }
 
-  pub answered-steps : list_at m.lists list ≡ [] → (told : Stepped) (new : MemoryParts) (left : List Choice) (next : Option ℕ) → IsAnswered asked P m choices told new left next
-      → IsStepped asked P m choices list told new left next
+  pub answered-steps : list_at m.lists list ≡ [] → (told : Stepped) (new : MemoryParts) (left : List Choice) (next : Option ℕ) → IsAnswerStep asked P m choices told new left next
+      → IsStepMade asked P m choices list told new left next
   answered-steps e told new left next answered ask size state is =
       subst (λ s. StepsTo asked P ask s told new left next) (sym is.state_is)
       (answered ask size is.groups is.first (subst (λ ps. Holds asked m is.groups ps is.first) e is.holds) is.choices_are)
 
   pub goal-steps : (goal : Pending) (rest : ℕ) → list_at m.lists list ≡ goal ∷ list_at m.lists rest → (told : Stepped) (new : MemoryParts) (left : List Choice) (next : Option ℕ)
-      → IsDown P m choices goal rest told new left next → IsStepped asked P m choices list told new left next
+      → IsDown P m choices goal rest told new left next → IsStepMade asked P m choices list told new left next
   goal-steps goal rest e told new left next down ask size state is =
       subst (λ s. StepsTo asked P ask s told new left next) (sym is.state_is)
       (down asked ask is.groups is.first (subst (λ ps. Holds asked m is.groups ps is.first) e is.holds) is.choices_are)

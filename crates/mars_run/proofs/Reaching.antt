@@ -11,8 +11,8 @@ use Rattle.mars_machine.specs.Steps.IsDerivation.{goes}
 use Rattle.mars_machine.specs.Machines.{SeenMachine, stepped_machine, TellsSaying, TellsNext, IsMachineStep}
 use Rattle.mars_memory.specs.Memory.{MemoryParts}
 use Rattle.mars_run.specs.States.{IsMachineState}
-use Rattle.mars_run.specs.Stepping.{StepsTo, IsStepped}
-use Rattle.mars_run.specs.Reached.{IsReached}
+use Rattle.mars_run.specs.Stepping.{StepsTo, IsStepMade}
+use Rattle.mars_run.specs.Reached.{IsRunState}
 
 -- as a machine is seen
 abbrev pub seen-of : RuleList → Ask → List (List Node) → ℕ → Bool → SeenMachine
@@ -34,12 +34,12 @@ next-counted seen (Answered told) says h = refl
 next-counted seen Ended says h = absurd h
 
 module _ (P : RuleList) (ask : Ask) (kept : List (List Node)) (steps : ℕ) (asked : List ℕ) (m : MemoryParts) (choices : List Choice) (present : Option ℕ) (list : ℕ)
-    (one_each : length ask.vars ≡ length asked) (reached : IsReached P ask kept steps asked m choices present) (here : present ≡ Some list)
-    (stepped : Stepped) (new : MemoryParts) (left : List Choice) (next : Option ℕ) (does : IsStepped asked P m choices list stepped new left next) where
+    (one_each : length ask.vars ≡ length asked) (reached : IsRunState P ask kept steps asked m choices present) (here : present ≡ Some list)
+    (stepped : Stepped) (new : MemoryParts) (left : List Choice) (next : Option ℕ) (does : IsStepMade asked P m choices list stepped new left next) where
   step-done : StepsTo asked P ask reached.state stepped new left next
   step-done = does ask one_each reached.state (subst (λ p. IsMachineState asked P.rules m choices p reached.state) here reached.is)
 
-  pub reached-next : IsReached P ask kept (steps + 1) asked new left next
+  pub reached-next : IsRunState P ask kept (steps + 1) asked new left next
   reached-next =
       let s = step-done in
       record {

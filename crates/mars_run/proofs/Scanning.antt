@@ -18,7 +18,7 @@ use Rattle.mars_memory.specs.Memory.{MemoryParts, root_of_node, first_of_node}
 use Rattle.mars_memory.specs.Holding.{alternatives_of, Holds}
 use Rattle.mars_memory.specs.Found.{HasNoRuleChild, HasRuleChild}
 use Rattle.mars_run.specs.Choices.{IsChoiceOf}
-use Rattle.mars_run.specs.Searching.{IsLeft}
+use Rattle.mars_run.specs.Searching.{IsLeftOver}
 use Rattle.mars_run.proofs.Unfit.{unfit-childless}
 
 module _ (parent : Alternative) (call : Subject) (others : List OpenGoal) (height : ℕ) where
@@ -143,6 +143,6 @@ module _ (asked : List ℕ) (rules : List Rule) (m : MemoryParts) (groups : List
   -- what is left after a rule that was taken
   pub left-after : (well : All IsRule rules) (root first : Option Label) (is_root : root ≡ root_of_node m.system node) (is_first : first ≡ first_of_node m.system node)
       (later : List Alternative) (from : ℕ) → IsChoiceOf asked rules m groups node rest from later → (left : Option ℕ) → IsFirstRule (FitsFirst root first) rules from left
-      → IsLeft asked rules m groups node rest left later
+      → IsLeftOver asked rules m groups node rest left later
   left-after well root first is_root is_first later from is None can = candidates-ended well root first is_root is_first later from is can
   left-after well root first is_root is_first later from is (Some rule) can = to-candidate well root first is_root is_first later from is rule can

@@ -27,7 +27,7 @@ use Rattle.mars_memory.specs.Holding.{height_of, alternatives_of, DenoteGoals, H
 use Rattle.mars_memory.specs.Holding.DenoteGoals.{none as goals-none, calls as goals-calls, cuts as goals-cuts}
 use Rattle.mars_start.specs.Started.{IsFirstGoal, IsStarted}
 use Rattle.mars_run.specs.Choices.AreChoicesOf.{none}
-use Rattle.mars_run.specs.Reached.{IsReached, IsRunning}
+use Rattle.mars_run.specs.Reached.{IsRunState, IsRunning}
 
 no-height : (depth : ℕ) → 0 ≡ height_of [] depth
 no-height depth = let e : 0 - depth ≡ 0 = omega arith in sym (ap (λ n. length (alternatives_of (drop n []))) e)
@@ -75,7 +75,7 @@ module _ (ask : Ask) (kept : List (List Node)) (s : System) (vars : List ℕ) (l
     solvable = start_alive ask kept;
   }
 
-  started-reached : (P : RuleList) → list < length lists → IsReached P ask kept 0 vars m [] (Some list)
+  started-reached : (P : RuleList) → list < length lists → IsRunState P ask kept 0 vars m [] (Some list)
   started-reached P inside = record {
     said = [];
     state = first ∷ [];

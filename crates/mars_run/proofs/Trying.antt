@@ -11,7 +11,7 @@ use Rattle.mars_machine.specs.Alternatives.{Alternative}
 use Rattle.mars_memory.specs.Memory.{MemoryParts, root_of_node, first_of_node}
 use Rattle.mars_memory.specs.Found.{IsTaken}
 use Rattle.mars_run.specs.Choices.{IsChoiceOf}
-use Rattle.mars_run.specs.Searching.{IsTried}
+use Rattle.mars_run.specs.Searching.{AreRulesTried}
 use Rattle.mars_run.proofs.Scanning.{rule-at, candidate-passed, candidate-taken, candidates-ended, left-after}
 
 module _ (rules : List Rule) (well : All IsRule rules) (m : MemoryParts) (node rest begin depth : ℕ) (root first : Option Label) (is_root : root ≡ root_of_node m.system node)
@@ -22,7 +22,7 @@ module _ (rules : List Rule) (well : All IsRule rules) (m : MemoryParts) (node r
       → IsChoiceOf asked rules m groups node rest begin children → IsChoiceOf asked rules m groups node rest from children
 
   -- there is no further candidate
-  pub tried-none : (from : ℕ) → Passes from → (new : MemoryParts) → new ≡ m → HasNone (FitsFirst root first) rules from → IsTried rules m node rest begin depth new None
+  pub tried-none : (from : ℕ) → Passes from → (new : MemoryParts) → new ≡ m → HasNone (FitsFirst root first) rules from → AreRulesTried rules m node rest begin depth new None
   tried-none from passes new same none_left = (
     same,
     λ asked groups children is size. candidates-ended asked rules m groups node rest depth size well root first is_root is_first children from (passes asked groups children size is) none_left,
@@ -42,7 +42,7 @@ module _ (rules : List Rule) (well : All IsRule rules) (m : MemoryParts) (node r
 
     -- the candidate has a child
     pub tried-one : (new : MemoryParts) (list : ℕ) → IsTaken m node rest depth flat new (Some list) → (left : Option ℕ) → IsFirstRule (FitsFirst root first) rules next left
-        → IsTried rules m node rest begin depth new (Some (list, left))
+        → AreRulesTried rules m node rest begin depth new (Some (list, left))
     tried-one new list taken left later = (
       taken.0,
       taken.1,

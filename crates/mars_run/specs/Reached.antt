@@ -11,7 +11,7 @@ use Rattle.mars_memory.specs.Memory.{MemoryParts}
 use Rattle.mars_run.specs.States.{IsMachineState}
 
 -- the run of an ask came, with so many steps, to the state that is here
-pub record IsReached (P : RuleList) (ask : Ask) (kept : List (List Node)) (steps : ℕ) (asked : List ℕ) (m : MemoryParts) (choices : List Choice) (present : Option ℕ) : Type 0 where
+pub record IsRunState (P : RuleList) (ask : Ask) (kept : List (List Node)) (steps : ℕ) (asked : List ℕ) (m : MemoryParts) (choices : List Choice) (present : Option ℕ) : Type 0 where
   pub said : List Says
   pub state : List Alternative
   pub run : IsAskRun P ask kept steps said state
@@ -21,4 +21,4 @@ pub record IsReached (P : RuleList) (ask : Ask) (kept : List (List Node)) (steps
 pub record IsRunning (P : RuleList) (ask : Ask) (kept : List (List Node)) (steps : ℕ) (broken : Bool) (asked : List ℕ) (m : MemoryParts) (choices : List Choice) (present : Option ℕ) : Type 0 where
   pub rules_are : All IsRule P.rules
   pub one_each : length ask.vars ≡ length asked
-  pub reached : broken ≡ false → IsReached P ask kept steps asked m choices present
+  pub reached : broken ≡ false → IsRunState P ask kept steps asked m choices present

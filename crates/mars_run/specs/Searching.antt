@@ -10,9 +10,9 @@ use Rattle.mars_run.specs.Choices.{IsChoiceOf, AreChoicesOf}
 use Rattle.mars_run.specs.States.{IsState, IsMachineState}
 
 -- what a call has left after a rule was taken: nothing, or its children by the rules from the next candidate on
-abbrev pub IsLeft : List ℕ → List Rule → MemoryParts → List (List Alternative) → ℕ → ℕ → Option ℕ → List Alternative → Type 0
-IsLeft asked rules m groups node rest None later = later ≡ []
-IsLeft asked rules m groups node rest (Some from) later = IsChoiceOf asked rules m groups node rest from later
+abbrev pub IsLeftOver : List ℕ → List Rule → MemoryParts → List (List Alternative) → ℕ → ℕ → Option ℕ → List Alternative → Type 0
+IsLeftOver asked rules m groups node rest None later = later ≡ []
+IsLeftOver asked rules m groups node rest (Some from) later = IsChoiceOf asked rules m groups node rest from later
 
 -- the first of the children is held now with the goals of a list, and the others are left
 pub record HasNext (asked : List ℕ) (rules : List Rule) (old : MemoryParts) (groups : List (List Alternative)) (node rest : ℕ) (children : List Alternative)
@@ -21,14 +21,14 @@ pub record HasNext (asked : List ℕ) (rules : List Rule) (old : MemoryParts) (g
   pub later : List Alternative
   pub children_are : children ≡ first ∷ later
   pub holds : Holds asked new groups (list_at new.lists list) first
-  pub left_are : IsLeft asked rules old groups node rest left later
+  pub left_are : IsLeftOver asked rules old groups node rest left later
 
 -- rules were tried on a call before so many choice points, from a place on: no child is left and the memory is as before, or
 -- the next child is held now
-abbrev pub IsTried : List Rule → MemoryParts → ℕ → ℕ → ℕ → ℕ → MemoryParts → Option (ℕ × Option ℕ) → Type 0
-IsTried rules old node rest from depth new None = (new ≡ old)
+abbrev pub AreRulesTried : List Rule → MemoryParts → ℕ → ℕ → ℕ → ℕ → MemoryParts → Option (ℕ × Option ℕ) → Type 0
+AreRulesTried rules old node rest from depth new None = (new ≡ old)
     × ((asked : List ℕ) (groups : List (List Alternative)) (children : List Alternative) → IsChoiceOf asked rules old groups node rest from children → length groups ≡ depth → children ≡ [])
-IsTried rules old node rest from depth new (Some found) = IsLaterMemory old new × (found.0 < length new.lists)
+AreRulesTried rules old node rest from depth new (Some found) = IsLaterMemory old new × (found.0 < length new.lists)
     × ((asked : List ℕ) (groups : List (List Alternative)) (children : List Alternative) → IsChoiceOf asked rules old groups node rest from children → length groups ≡ depth
     → HasNext asked rules old groups node rest children new found.0 found.1)
 
@@ -39,11 +39,11 @@ with_left choice (Some from) choices = record choice { from = from } ∷ choices
 
 -- a choice was tried after the choice points: it had nothing left and all is as before, or what it had left, and the choice
 -- points, are the state now
-abbrev pub IsChosen : List Rule → MemoryParts → List Choice → Choice → MemoryParts → List Choice → Option ℕ → Type 0
-IsChosen rules old choices choice new left None = (new ≡ old) × (left ≡ choices)
+abbrev pub IsChildChosen : List Rule → MemoryParts → List Choice → Choice → MemoryParts → List Choice → Option ℕ → Type 0
+IsChildChosen rules old choices choice new left None = (new ≡ old) × (left ≡ choices)
     × ((asked : List ℕ) (groups : List (List Alternative)) (children : List Alternative) → AreChoicesOf asked rules old choices groups
     → IsChoiceOf asked rules old groups choice.call choice.rest choice.from children → children ≡ [])
-IsChosen rules old choices choice new left (Some list) =
+IsChildChosen rules old choices choice new left (Some list) =
     (asked : List ℕ) (groups : List (List Alternative)) (children : List Alternative) → AreChoicesOf asked rules old choices groups
     → IsChoiceOf asked rules old groups choice.call choice.rest choice.from children → IsState asked rules new left list (children ++ alternatives_of groups)
 

@@ -29,8 +29,8 @@ pub record StepsTo (asked : List ℕ) (P : RuleList) (ask : Ask) (state : List A
   pub is : IsMachineState asked P.rules m choices next after
 
 -- whichever state it was, for whichever ask with so many variables, it is the state after a step now, and the step told this
-abbrev pub IsStepped : List ℕ → RuleList → MemoryParts → List Choice → ℕ → Stepped → MemoryParts → List Choice → Option ℕ → Type 0
-IsStepped asked P old choices list stepped new left next =
+abbrev pub IsStepMade : List ℕ → RuleList → MemoryParts → List Choice → ℕ → Stepped → MemoryParts → List Choice → Option ℕ → Type 0
+IsStepMade asked P old choices list stepped new left next =
     (ask : Ask) → length ask.vars ≡ length asked → (state : List Alternative) → IsState asked P.rules old choices list state → StepsTo asked P ask state stepped new left next
 
 -- the same of a state whose first alternative has a call of a node before a list
@@ -51,8 +51,8 @@ abbrev pub HasAnswer : List ℕ → List Rule → MemoryParts → List Choice �
 HasAnswer asked rules m choices = HoldsGoals asked rules m choices []
 
 -- whichever alternative without goals was held, its step told this
-abbrev pub IsAnswered : List ℕ → RuleList → MemoryParts → List Choice → Stepped → MemoryParts → List Choice → Option ℕ → Type 0
-IsAnswered asked P old choices stepped new left next =
+abbrev pub IsAnswerStep : List ℕ → RuleList → MemoryParts → List Choice → Stepped → MemoryParts → List Choice → Option ℕ → Type 0
+IsAnswerStep asked P old choices stepped new left next =
     (ask : Ask) → length ask.vars ≡ length asked → (groups : List (List Alternative)) (first : Alternative) → Holds asked old groups [] first → AreChoicesOf asked P.rules old choices groups
     → StepsTo asked P ask (first ∷ alternatives_of groups) stepped new left next
 

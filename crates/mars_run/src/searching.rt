@@ -4,7 +4,7 @@ ghost use Rattle.mars_term.specs.Clauses.{IsRule};
 ghost use Rattle.mars_memory.specs.Memory.{memory_undone, IsMemoryMark};
 ghost use Rattle.mars_memory.specs.Found.{HasCallAt};
 ghost use Rattle.mars_run.specs.States.{HasChoices};
-ghost use Rattle.mars_run.specs.Searching.{IsTried, with_left, IsChosen, GoesBack, GoesDown};
+ghost use Rattle.mars_run.specs.Searching.{AreRulesTried, with_left, IsChildChosen, GoesBack, GoesDown};
 
 use mars_base::NoMemory;
 use mars_goals::{Choice, ChoicePoints, GoalList};
@@ -37,7 +37,7 @@ fn try_rules(
     requires rules { All IsRule rules.now.rules }
     requires held { HasCallAt memory.old choice.now.call choice.now.rest depth }
     requires within { choice.now.from ≤ length rules.now.rules }
-    ensures { IfOk result (IsTried rules.now.rules memory.old choice.now.call choice.now.rest choice.now.from depth memory.new) }
+    ensures { IfOk result (AreRulesTried rules.now.rules memory.old choice.now.call choice.now.rest choice.now.from depth memory.new) }
 {
     let root = memory.root_label(choice.call);
     let first = memory.first_label(choice.call);
@@ -89,7 +89,7 @@ fn choose(
     requires within { choice.now.from ≤ length rules.now.rules }
     requires made { IsMemoryMark memory.old choice.now.mark }
     requires back { memory_undone memory.old choice.now.mark ≡ memory.old }
-    ensures { IfOk result (IsChosen rules.now.rules memory.old points.old choice.now memory.new points.new) }
+    ensures { IfOk result (IsChildChosen rules.now.rules memory.old points.old choice.now memory.new points.new) }
 {
     let depth = points.len();
     match try_rules(alloc, rules, memory, choice, depth, registers)? {

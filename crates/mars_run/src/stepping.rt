@@ -4,7 +4,7 @@ ghost use Rattle.mars_term.specs.Clauses.{IsRule};
 ghost use Rattle.mars_machine.specs.BuiltIns.{HasBuiltIn};
 ghost use Rattle.mars_memory.specs.Found.{HasCallAt, IsCallOf};
 ghost use Rattle.mars_run.specs.States.{HasState, HasChoices};
-ghost use Rattle.mars_run.specs.Stepping.{IsStepped, IsCalled, IsOfRules, HasAnswer, IsAnswered, HasGoal, IsDown};
+ghost use Rattle.mars_run.specs.Stepping.{IsStepMade, IsCalled, IsOfRules, HasAnswer, IsAnswerStep, HasGoal, IsDown};
 
 use crate::saying::say;
 use crate::searching::{call_rules, next_alternative};
@@ -95,7 +95,7 @@ fn step_answer(
 ) -> Result<Step, NoMemory>
     requires rules { All IsRule rules.now.rules }
     requires answer { HasAnswer asked.now rules.now.rules memory.old points.old }
-    ensures { IfOk result (λ step. IsAnswered asked.now rules.now memory.old points.old step.0 memory.new points.new step.1) }
+    ensures { IfOk result (λ step. IsAnswerStep asked.now rules.now memory.old points.old step.0 memory.new points.new step.1) }
 {
     let answer = tell_answer(alloc, memory, asked)?;
     let next = next_alternative(alloc, rules, memory, points, registers)?;
@@ -137,7 +137,7 @@ pub(crate) fn step_on(
 ) -> Result<Step, NoMemory>
     requires rules { All IsRule rules.now.rules }
     requires state { HasState asked.now rules.now.rules memory.old points.old list }
-    ensures { IfOk result (λ step. IsStepped asked.now rules.now memory.old points.old list step.0 memory.new points.new step.1) }
+    ensures { IfOk result (λ step. IsStepMade asked.now rules.now memory.old points.old list step.0 memory.new points.new step.1) }
 {
     match memory.first(list) {
         None => step_answer(alloc, rules, memory, points, registers, asked),
