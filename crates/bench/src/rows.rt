@@ -80,17 +80,24 @@ fn make_tree(alloc: Global, shape: Shape, size: usize) -> Result<Option<Tree>, N
 
 /// How many rows there are after a tree was added once and twice, and whether it is found then.
 fn counts(alloc: Global, shape: Shape, size: usize) -> Result<(u64, u64, bool), NoMemory> {
-    let graph = make_graph(alloc, shape, size)?;
-    let mut rows = Rows::new(alloc, 1_000_000);
-    match tree_of_last(alloc, &graph)? {
-        Some(tree) => {
-            let first = add(&mut rows, &tree)?;
-            let again = add(&mut rows, &tree)?;
-            let found = is_found(&rows, &tree)?;
-            Ok((first, again, found))
-        }
+    match make_tree(alloc, shape, size)? {
+        Some(tree) => counts_of(alloc, &tree),
         None => Ok((0, 0, false)),
     }
+}
+
+/// The same of a tree.
+fn counts_of(alloc: Global, tree: &Tree) -> Result<(u64, u64, bool), NoMemory> {
+    let mut rows = Rows::new(alloc, 1_000_000);
+    counts_in(&mut rows, tree)
+}
+
+/// The same of a tree on rows that have none.
+fn counts_in(rows: &mut Rows, tree: &Tree) -> Result<(u64, u64, bool), NoMemory> {
+    let first = add(rows, tree)?;
+    let again = add(rows, tree)?;
+    let found = is_found(rows, tree)?;
+    Ok((first, again, found))
 }
 
 /// The words as a task, where they are one.
