@@ -1,0 +1,11 @@
+-- Promised: lines, what commands do, the events of a session, and the session alone.
+pub mod Lines
+pub mod SessionPoints
+pub mod CommandActs
+pub mod AskEvents
+pub mod SessionEvents
+pub mod SessionAlone
+pub mod SessionLaws
+-- Promised: whole runs, the world, and its schedules.
+pub mod WholeRuns
+pub mod Worlds
