@@ -4,3 +4,11 @@ pub mod Lists
 pub mod Places
 pub mod Points
 pub mod Handles
+pub mod Closed
+pub mod Tables
+pub mod Schedules
+pub mod Worlds
+pub mod Ones
+pub mod Replaying
+pub mod TogetherLemmas
+pub mod Numbering

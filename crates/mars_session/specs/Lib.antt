@@ -9,3 +9,8 @@ pub mod SessionLaws
 -- Promised: whole runs, the world, and its schedules.
 pub mod WholeRuns
 pub mod Worlds
+pub mod WorldLaws
+-- Promised: what callers see of a session, and its events over a door.
+pub mod SessionSeen
+pub mod DoorEvents
+pub mod Together

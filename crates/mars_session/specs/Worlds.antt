@@ -20,10 +20,14 @@ pub record World : Type 0 where
 abbrev pub new_world : List SessionPart → ℕ → World
 new_world parts rows = record { table = uncalled rows; points = map session_start parts }
 
+-- a table with more entries
+abbrev pub with_entries : TableSeen → List Entry → TableSeen
+with_entries t made = record { cap = t.cap; history = t.history ++ made }
+
 -- the table after calls, each with the table's reply
 pub record MakesCalls (old : TableSeen) (made : List Entry) (new : TableSeen) : Type 0 where
   pub replies : AreReplies (object_of old) made
-  pub table : new ≡ record { cap = old.cap; history = old.history ++ made }
+  pub table : new ≡ with_entries old made
 
 -- one event of session `i`, which was at `p`; the call that it makes, where it makes one, has the table's reply
 pub record MovesSession (part : SessionPart) (i : ℕ) (p : SessionPoint) (old new : World) : Type 0 where
