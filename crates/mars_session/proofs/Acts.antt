@@ -1,13 +1,10 @@
 -- What a command does at a point is determined.
-use Rattle.std.proofs.Common.{◌≡◌, ◌≢◌, ℕ, zero, suc, ◌<◌, ◌≤◌, List, [], ◌∷◌, length, refl, ap, sym, ◌∙◌, subst, arith, inl, inr}
-use Rattle.std.specs.Prelude.{◌⊎◌, Option, Some, None}
+use Rattle.std.proofs.Common.{◌≡◌, ℕ, List, [], ◌∷◌, length, refl, ap, sym, ◌∙◌, arith, inl, inr}
+use Rattle.std.specs.Prelude.{Option, Some, None}
 use Rattle.mars_tree.specs.declared.label.NameId.{NameId}
-use Rattle.mars_tree.specs.Graph.{Node, IsGraph, Same}
-use Rattle.mars_tree.specs.Canonical.{IsCanonical}
+use Rattle.mars_tree.specs.Graph.{Node, Same}
 use Rattle.mars_tree.proofs.CallerLemmas.{roots_in}
-use Rattle.mars_reach.specs.Reach.{ReachesFree, ReachesNoFree}
-use Rattle.mars_canon.specs.Canon.{Rooted, IsCanon, HaveSameTrees}
-use Rattle.mars_canon.specs.Tree.{IsTree, IsSameTree, most_nodes}
+use Rattle.mars_canon.specs.Canon.{Rooted, IsCanon}
 use Rattle.mars_canon.proofs.Forms.{one_form_of_trees}
 use Rattle.mars_rows.specs.TreeGraph.{IsTreeGraph, IsTreeGraphOf}
 use Rattle.mars_script.specs.declared.script.Command.{Command}
@@ -15,7 +12,7 @@ use Rattle.mars_script.specs.declared.script.Command.TheVariants as command
 use Rattle.mars_session.specs.declared.named.Named.{Named}
 use Rattle.mars_session.specs.declared.named.TreeForm.{TreeForm}
 use Rattle.mars_session.specs.declared.named.TreeForm.TheVariants.{Free, Large, Small}
-use Rattle.mars_session.specs.SessionPoints.{SessionPoint, LatestAsk, under_name, named_trees}
+use Rattle.mars_session.specs.SessionPoints.{SessionPoint, LatestAsk, under_name}
 use Rattle.mars_session.specs.CommandActs.{CommandAct, IsTreeForm, form_act, KeepsTree, PutActs, KeepsRoot, KeepsVariable, KeepsLatest, KeepActs, variable_place, SameActs, ActsAt}
 
 -- the canonical graph of a tree is one

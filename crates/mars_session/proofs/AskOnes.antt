@@ -1,6 +1,5 @@
 -- The event of an ask after so many steps is determined.
-use Rattle.std.proofs.Common.{◌≡◌, ◌≢◌, ℕ, zero, suc, ◌+◌, List, [], ◌∷◌, ◌++◌, length, Bool, true, false, Option, Some, None, refl, ap, ap₂, sym, ◌∙◌, subst, inl, inr}
-use Rattle.std.specs.Prelude.{◌⊎◌}
+use Rattle.std.proofs.Common.{◌≡◌, ℕ, suc, ◌+◌, List, [], ◌∷◌, ◌++◌, length, Bool, true, false, Option, Some, None, refl, ap, sym, ◌∙◌, subst, inl, inr}
 use Rattle.mars_tree.specs.declared.label.NameId.{NameId}
 use Rattle.mars_tree.specs.Graph.{Node}
 use Rattle.mars_canon.specs.Canon.{Rooted}
@@ -13,7 +12,7 @@ use Rattle.mars_machine.specs.declared.stepped.Stepped.TheVariants.{Went, Said, 
 use Rattle.mars_machine.specs.Subjects.{Subject}
 use Rattle.mars_machine.specs.Equations.{Equations}
 use Rattle.mars_machine.specs.Alternatives.{Alternative, ask_start}
-use Rattle.mars_machine.specs.Steps.{Says, nothing, tree, text, answer, IsDerivationStep, IsAskRun}
+use Rattle.mars_machine.specs.Steps.{Says, tree, answer, IsAskRun}
 use Rattle.mars_machine.specs.Steps.IsDerivation.{begins, goes}
 use Rattle.mars_machine.specs.Asks.{answer_count, EndsNow}
 use Rattle.mars_machine.specs.TermAnswers.{IsTermAnswer, IsAnswerOf, answer_roots}
@@ -21,7 +20,7 @@ use Rattle.mars_machine.specs.Machines.{TellsSaying}
 use Rattle.mars_machine.proofs.Runs.{derivation_once, one_way}
 use Rattle.mars_machine.proofs.Telling.{answer_once, open_once}
 use Rattle.mars_session.specs.Lines.{told_line, told_answer, answer_line, ending_line}
-use Rattle.mars_session.specs.AskEvents.{AskEvent, GoesOnNow, ClosesBy, EndsAtOnce, IsStepEvent, IsAskEvent}
+use Rattle.mars_session.specs.AskEvents.{AskEvent, ClosesBy, EndsAtOnce, IsStepEvent, IsAskEvent}
 
 -- what is told of a saying has one line, and one answer
 pub record ToldAlike (names : List (List ℕ)) (vars : List NameId) (a b : Stepped) : Type 0 where
@@ -86,32 +85,32 @@ last_same (u ∷ xs) (v ∷ ys) x y same e = last_same xs ys x y (cc same) (cc e
 module _ (names : List (List ℕ)) (P : RuleList) (ask : Ask) (kept : List (List Node)) (budget steps : ℕ) where
   step_once : (a b : AskEvent) → IsStepEvent names P ask kept budget steps a → IsStepEvent names P ask kept budget steps b → a ≡ b
   step_once a b h k =
-    let before = derivation_once P ask kept steps h.said k.said h.state k.state h.run k.run in
-    let here : IsAskRun P ask kept (suc steps) (h.said ++ h.says ∷ []) h.after = goes h.run h.step in
-    let there : IsAskRun P ask kept (suc steps) (k.said ++ k.says ∷ []) k.after = goes k.run k.step in
-    let now = derivation_once P ask kept (suc steps) (h.said ++ h.says ∷ []) (k.said ++ k.says ∷ []) h.after k.after here there in
-    let says : h.says ≡ k.says = last_same h.said k.said h.says k.says before.0 now.0 in
-    let tells : TellsSaying ask k.stepped h.says = subst (λ (s : Says). TellsSaying ask k.stepped s) (sym says) k.tells in
-    let told = told_alike names ask h.stepped k.stepped h.says h.tells tells in
-    let closes : ClosesBy budget ask.most (suc steps) (h.said ++ h.says ∷ []) h.after k.line b.ends =
-        subst (λ (l : List Says). ClosesBy budget ask.most (suc steps) l h.after k.line b.ends) (sym now.0)
-        (subst (λ (s : List Alternative). ClosesBy budget ask.most (suc steps) (k.said ++ k.says ∷ []) s k.line b.ends) (sym now.1) k.closes) in
-    let one = closes_one budget ask.most (suc steps) (h.said ++ h.says ∷ []) h.after h.line k.line a.ends b.ends h.closes closes in
-    let text : a.text ≡ b.text = h.text_is ∙ (λ i. told.line (answer_count (before.0 i)) i ++ one.0 i) ∙ sym k.text_is in
-    let answer : a.answer ≡ b.answer = h.answer_is ∙ told.answer ∙ sym k.answer_is in
-    λ i. record { text = text i; answer = answer i; ends = one.1 i }
+      let before = derivation_once P ask kept steps h.said k.said h.state k.state h.run k.run in
+      let here : IsAskRun P ask kept (suc steps) (h.said ++ h.says ∷ []) h.after = goes h.run h.step in
+      let there : IsAskRun P ask kept (suc steps) (k.said ++ k.says ∷ []) k.after = goes k.run k.step in
+      let now = derivation_once P ask kept (suc steps) (h.said ++ h.says ∷ []) (k.said ++ k.says ∷ []) h.after k.after here there in
+      let says : h.says ≡ k.says = last_same h.said k.said h.says k.says before.0 now.0 in
+      let tells : TellsSaying ask k.stepped h.says = subst (λ (s : Says). TellsSaying ask k.stepped s) (sym says) k.tells in
+      let told = told_alike names ask h.stepped k.stepped h.says h.tells tells in
+      let closes : ClosesBy budget ask.most (suc steps) (h.said ++ h.says ∷ []) h.after k.line b.ends =
+      subst (λ (l : List Says). ClosesBy budget ask.most (suc steps) l h.after k.line b.ends) (sym now.0)
+      (subst (λ (s : List Alternative). ClosesBy budget ask.most (suc steps) (k.said ++ k.says ∷ []) s k.line b.ends) (sym now.1) k.closes) in
+      let one = closes_one budget ask.most (suc steps) (h.said ++ h.says ∷ []) h.after h.line k.line a.ends b.ends h.closes closes in
+      let text : a.text ≡ b.text = h.text_is ∙ (λ i. told.line (answer_count (before.0 i)) i ++ one.0 i) ∙ sym k.text_is in
+      let answer : a.answer ≡ b.answer = h.answer_is ∙ told.answer ∙ sym k.answer_is in
+      λ i. record { text = text i; answer = answer i; ends = one.1 i }
 
   at_once_or_step : (a b : AskEvent) → EndsAtOnce ask kept budget steps a → IsStepEvent names P ask kept budget steps b → ⊥
   at_once_or_step a b h k =
-    let run : IsAskRun P ask kept 0 k.said k.state = subst (λ (n : ℕ). IsAskRun P ask kept n k.said k.state) h.none_done k.run in
-    let same = derivation_once P ask kept 0 [] k.said (ask_start ask kept ∷ []) k.state begins run in
-    let ends : EndsNow budget ask.most 0 k.said k.state h.ending = subst (λ (l : List Says). EndsNow budget ask.most 0 l k.state h.ending) same.0 (subst (λ (s : List Alternative). EndsNow budget ask.most 0 [] s h.ending) same.1 h.ends) in
-    k.goes_on h.ending (subst (λ (n : ℕ). EndsNow budget ask.most n k.said k.state h.ending) (sym h.none_done) ends)
+      let run : IsAskRun P ask kept 0 k.said k.state = subst (λ (n : ℕ). IsAskRun P ask kept n k.said k.state) h.none_done k.run in
+      let same = derivation_once P ask kept 0 [] k.said (ask_start ask kept ∷ []) k.state begins run in
+      let ends : EndsNow budget ask.most 0 k.said k.state h.ending = subst (λ (l : List Says). EndsNow budget ask.most 0 l k.state h.ending) same.0 (subst (λ (s : List Alternative). EndsNow budget ask.most 0 [] s h.ending) same.1 h.ends) in
+      k.goes_on h.ending (subst (λ (n : ℕ). EndsNow budget ask.most n k.said k.state h.ending) (sym h.none_done) ends)
 
   pub event_once : (a b : AskEvent) → IsAskEvent names P ask kept budget steps a → IsAskEvent names P ask kept budget steps b → a ≡ b
   unfolding IsAskEvent
   event_once a b (inl h) (inl k) =
-    h.event_is ∙ ap (λ (e : Ending). record { text = ending_line e 0; answer = None; ends = true }) (one_way budget ask.most 0 [] (ask_start ask kept ∷ []) h.ending k.ending h.ends k.ends) ∙ sym k.event_is
+      h.event_is ∙ ap (λ (e : Ending). record { text = ending_line e 0; answer = None; ends = true }) (one_way budget ask.most 0 [] (ask_start ask kept ∷ []) h.ending k.ending h.ends k.ends) ∙ sym k.event_is
   event_once a b (inl h) (inr k) = absurd (at_once_or_step a b h k)
   event_once a b (inr h) (inl k) = absurd (at_once_or_step b a k h)
   event_once a b (inr h) (inr k) = step_once a b h k

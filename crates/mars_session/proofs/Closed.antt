@@ -1,29 +1,24 @@
 -- A session that ended with the entries of a history.
-use Rattle.std.proofs.Common.{◌≡◌, ◌≢◌, ℕ, zero, suc, ◌+◌, ◌<◌, ◌≤◌, List, [], ◌∷◌, ◌++◌, length, map, refl, ap, sym, ◌∙◌, subst, arith, append-nil, append_assoc, length-append, inl, inr, get_or}
-use Rattle.std.specs.Prelude.{◌⊎◌, Option, Some, None, slice_get, All, Bool, true, false, filter, nat_eq}
-use Rattle.std.proofs.lemmas.List.{map-append, length-map}
+use Rattle.std.proofs.Common.{◌≡◌, ℕ, zero, suc, List, [], ◌∷◌, length, refl, ap, sym, ◌∙◌, subst, arith, length-append, get_or}
+use Rattle.std.specs.Prelude.{All, nat_eq}
+use Rattle.std.proofs.lemmas.List.{length-map}
 use Rattle.std.proofs.lemmas.List.Elements.{All-nil, All-cons, All-append, filter_passes, All-head, All-tail}
 use Rattle.std.proofs.lemmas.Bool.{eqb-true}
 use Rattle.mars_table.specs.declared.entry.Call.{Call}
-use Rattle.mars_table.specs.declared.entry.Reply.{Reply}
 use Rattle.mars_table.specs.declared.entry.Entry.{Entry}
-use Rattle.mars_table.specs.History.{call_entry, of, AreReplies, Legal, after_all, after_history}
-use Rattle.mars_table.specs.TableSeen.{TableSeen, uncalled, object_of}
-use Rattle.mars_session.specs.Lines.{last_line}
+use Rattle.mars_table.specs.History.{call_entry, of}
 use Rattle.mars_session.specs.SessionPoints.{SessionPart, SessionPoint, session_start}
-use Rattle.mars_session.specs.SessionEvents.{IsEvent, HasNoCommand, AreEvents, WantsCall, ReachesPoint}
-use Rattle.mars_session.specs.SessionAlone.{BeginsWith, replies_of, calls_of, IsSessionAlone, ComesTo, at_end, at_call}
-use Rattle.mars_session.specs.WholeRuns.{closing_calls, ClosesWith, ForEach, IsWholeRun, WritesAlone}
-use Rattle.mars_session.specs.Worlds.{World, new_world, with_entries, MakesCalls, MovesSession, Happens, Plays, HasEnded, RunsToEnds, Finishes, IsScheduled, MakesEntry, IsOrderFrom, IsOrderOf}
-use Rattle.mars_session.proofs.Lists.{begins_same, begins_more, begins_on, begins_length}
-use Rattle.mars_session.proofs.Points.{Grows, none, one, grows}
+use Rattle.mars_session.specs.SessionEvents.{HasNoCommand, AreEvents, ReachesPoint}
+use Rattle.mars_session.specs.SessionAlone.{replies_of, calls_of, IsSessionAlone, ComesTo, at_end, at_call}
+use Rattle.mars_session.proofs.Lists.{begins_same, begins_length}
+use Rattle.mars_session.proofs.Points.{none, one, grows}
 
 pub after_own : (part : SessionPart) (n : ℕ) (p q : SessionPoint) → AreEvents part n p q → All (λ (e : Entry). e.who ≡ part.who) p.mine → All (λ (e : Entry). e.who ≡ part.who) q.mine
 after_own part zero p q a own = subst (λ (x : SessionPoint). All (λ (e : Entry). e.who ≡ part.who) x.mine) (sym a) own
 after_own part (suc n) p q a own = after_own part n a.0 q a.2 (elim (grows part p a.0 a.1) [
-    none e ↦ subst (λ (l : List Entry). All (λ (e : Entry). e.who ≡ part.who) l) (sym e) own
+  | none e ↦ subst (λ (l : List Entry). All (λ (e : Entry). e.who ≡ part.who) l) (sym e) own
   | one call reply fits e ↦ subst (λ (l : List Entry). All (λ (e : Entry). e.who ≡ part.who) l) (sym e) (All-append (λ (e : Entry). e.who ≡ part.who) p.mine (call_entry part.who call reply ∷ []) own (All-cons (λ (e : Entry). e.who ≡ part.who) (call_entry part.who call reply) [] refl (All-nil (λ (e : Entry). e.who ≡ part.who))))
-  ])
+])
 
 pub of_own : (history : List Entry) (who : ℕ) → All (λ (e : Entry). e.who ≡ who) (of history who)
 of_own history who = λ k d lt. eqb-true (get_or (of history who) k d).who who (filter_passes (λ (e : Entry). nat_eq e.who who) history k d lt)
@@ -58,13 +53,17 @@ pub ended_with : (part : SessionPart) (mine : List Entry) (text : List ℕ) → 
 ended_with part mine text own alone =
     let s = stands_ended part mine alone.point (calls_of mine) refl alone.comes in
     record {
-      point = alone.point; reached = alone.reached; ended = s.0;
+      point = alone.point;
+      reached = alone.reached;
+      ended = s.0;
       mine_is = same_entries part.who alone.point.mine mine (after_own part alone.reached.0 (session_start part) alone.point alone.reached.1 (All-nil (λ (e : Entry). e.who ≡ part.who))) own s.1 s.2;
       text_is = alone.text_is;
     }
 
 pub alone_with : (part : SessionPart) (mine : List Entry) (text : List ℕ) → EndedWith part mine text → IsSessionAlone part (replies_of mine) text (calls_of mine)
 alone_with part mine text w = record {
-    point = w.point; reached = w.reached; text_is = w.text_is;
-    comes = subst (λ (l : List Entry). ComesTo part (replies_of l) w.point (calls_of l)) w.mine_is (at_end w.ended (begins_same (replies_of w.point.mine)));
-  }
+  point = w.point;
+  reached = w.reached;
+  text_is = w.text_is;
+  comes = subst (λ (l : List Entry). ComesTo part (replies_of l) w.point (calls_of l)) w.mine_is (at_end w.ended (begins_same (replies_of w.point.mine)));
+}

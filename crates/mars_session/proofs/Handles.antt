@@ -1,5 +1,5 @@
 -- The names of a session and its pins: what a session asks of the table it may ask.
-use Rattle.std.proofs.Common.{◌≡◌, ℕ, zero, suc, ◌+◌, ◌<◌, ◌≤◌, List, [], ◌∷◌, ◌++◌, length, map, refl, ap, sym, ◌∙◌, subst, arith, append-nil, inl, inr, get_or}
+use Rattle.std.proofs.Common.{◌≡◌, ℕ, zero, suc, ◌+◌, ◌<◌, ◌≤◌, List, [], ◌∷◌, ◌++◌, length, map, refl, ap, sym, ◌∙◌, subst, arith, append-nil, inl, inr}
 use Rattle.std.specs.Prelude.{◌⊎◌, ⊤, Option, Some, None, slice_get, Bool, true, false, not, nat_eq, nat_lt, if◌then◌else◌, find, position, remove, unwrap_or, option_and_then, Contains}
 use Rattle.std.specs.List.{position_or_len}
 use Rattle.std.specs.Option.{option_map}
@@ -14,9 +14,7 @@ use Rattle.mars_canon.specs.Canon.{Rooted}
 use Rattle.mars_canon.specs.Tree.{IsTree}
 use Rattle.mars_script.specs.declared.script.Command.{Command}
 use Rattle.mars_script.specs.declared.script.Command.TheVariants as command
-use Rattle.mars_table.specs.declared.entry.Handle.{Handle}
 use Rattle.mars_table.specs.declared.entry.Call.{Call}
-use Rattle.mars_table.specs.declared.entry.Call.TheVariants.{Intern, Pin, Show, Drop, Sweep, Count}
 use Rattle.mars_table.specs.declared.entry.Reply.{Reply}
 use Rattle.mars_table.specs.declared.entry.Reply.TheVariants.{Kept, Full, Pinned, Shown, Dropped, Swept, Counted}
 use Rattle.mars_table.specs.declared.entry.Entry.{Entry}
@@ -25,9 +23,9 @@ use Rattle.mars_session.specs.declared.named.Named.{Named}
 use Rattle.mars_session.specs.declared.named.TreeForm.{TreeForm}
 use Rattle.mars_session.specs.declared.named.TreeForm.TheVariants.{Free, Large, Small}
 use Rattle.mars_session.specs.SessionPoints.{SessionPart, SessionPoint, LatestAsk, session_start, under_name, without_name, named_trees, held_numbers}
-use Rattle.mars_session.specs.CommandActs.{CommandAct, Writes, Uses, Asks, TableUse, Keeps, Pins, Shows, Drops, Sweeps, Counts, ActsAt, AnswersCall, call_of, names_after, names_with, IsTreeForm, form_act, KeepsTree, PutActs, KeepsRoot, KeepsVariable, KeepsLatest, KeepActs, variable_place, SameActs, ask_act, show_act, pin_act, drop_act}
+use Rattle.mars_session.specs.CommandActs.{CommandAct, Writes, Uses, Asks, TableUse, Keeps, Pins, Shows, Drops, Sweeps, Counts, ActsAt, AnswersCall, call_of, names_after, IsTreeForm, form_act, KeepsTree, PutActs, KeepsRoot, KeepsVariable, KeepsLatest, KeepActs, variable_place, SameActs, ask_act, show_act, pin_act, drop_act}
 use Rattle.mars_session.specs.AskEvents.{AskEvent}
-use Rattle.mars_session.specs.SessionEvents.{stepped_by, DoesAct, IsEvent, WantsCall, AreEvents, ReachesPoint}
+use Rattle.mars_session.specs.SessionEvents.{stepped_by, DoesAct, AreEvents}
 use Rattle.mars_session.specs.SessionLaws.{CallsAreAllowed}
 
 one_if : Bool → ℕ
@@ -55,17 +53,17 @@ occurs_first : (h x : ℕ) (ys : List ℕ) → 0 < occurs h ys → occurs x ys �
 unfolding occurs one_if
 occurs_first h x [] some = absurd (omega (arith, some))
 occurs_first h x (y ∷ ys) some = elim (told (nat_eq y h)) [
-    inl same ↦ let one : y ≡ h = eqb-true y h same in rw (same, one) (omega arith)
+  | inl same ↦ let one : y ≡ h = eqb-true y h same in rw (same, one) (omega arith)
   | inr other ↦ let less : 0 < occurs h ys = positive (occurs h ys) (rw other at some) in rw other (omega (arith, occurs_first h x ys less))
-  ]
+]
 
 occurs_contains : (h : ℕ) (ys : List ℕ) → 0 < occurs h ys → Contains ys h
 unfolding occurs one_if
 occurs_contains h [] some = absurd (omega (arith, some))
 occurs_contains h (y ∷ ys) some = elim (told (nat_eq y h)) [
-    inl same ↦ (zero, (omega arith), eqb-true y h same)
+  | inl same ↦ (zero, (omega arith), eqb-true y h same)
   | inr other ↦ let less : 0 < occurs h ys = positive (occurs h ys) (rw other at some) in let c = occurs_contains h ys less in (suc c.0, (omega (arith, c.1)), c.2)
-  ]
+]
 
 module _ (test : Named → Bool) where
   out : List Named → List Named
@@ -102,17 +100,17 @@ module _ (test : Named → Bool) where
   unfolding occurs out
   occurs_out [] n x e = absurd (cc e)
   occurs_out (m ∷ names) n x e = elim (told (test m)) [
-      inl hit ↦ let same : m ≡ n = (let f = (rw hit at e) in cc f) in rw (hit, same) (omega arith)
+    | inl hit ↦ let same : m ≡ n = (let f = (rw hit at e) in cc f) in rw (hit, same) (omega arith)
     | inr miss ↦ let f : find test names ≡ Some n = rw miss at e in rw miss (omega (arith, occurs_out names n x f))
-    ]
+  ]
 
   occurs_found : (names : List Named) (n : Named) → find test names ≡ Some n → 0 < occurs n.handle.0 (held_numbers names)
   unfolding occurs one_if
   occurs_found [] n e = absurd (cc e)
   occurs_found (m ∷ names) n e = elim (told (test m)) [
-      inl hit ↦ let same : m ≡ n = (let f = (rw hit at e) in cc f) in rw (same, eq-eqb n.handle.0 n.handle.0 refl) (omega arith)
+    | inl hit ↦ let same : m ≡ n = (let f = (rw hit at e) in cc f) in rw (same, eq-eqb n.handle.0 n.handle.0 refl) (omega arith)
     | inr miss ↦ let f : find test names ≡ Some n = rw miss at e in let more = occurs_found names n f in omega (arith, more)
-    ]
+  ]
 
 held_snoc : (pins : List ℕ) (mine : List Entry) (e : Entry) → held_from pins (mine ++ e ∷ []) ≡ held_after (held_from pins mine) e.call e.reply
 held_snoc pins [] e = refl

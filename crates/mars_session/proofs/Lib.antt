@@ -12,3 +12,4 @@ pub mod Ones
 pub mod Replaying
 pub mod TogetherLemmas
 pub mod Numbering
+pub mod AskTexts

@@ -1,7 +1,6 @@
 -- Lists that begin others, and places in lists.
-use Rattle.std.proofs.Common.{◌≡◌, ◌≢◌, ℕ, zero, suc, ◌+◌, ◌<◌, List, [], ◌∷◌, ◌++◌, length, map, refl, ap, sym, ◌∙◌, subst, arith, append-nil, append_assoc, length-append}
-use Rattle.std.specs.Prelude.{Option, Some, None, slice_get, slice_set, All, replicate}
-use Rattle.std.proofs.lemmas.List.{map-append}
+use Rattle.std.proofs.Common.{◌≡◌, ◌≢◌, ℕ, zero, suc, ◌+◌, List, [], ◌∷◌, ◌++◌, length, refl, ap, sym, ◌∙◌, arith, append-nil, append_assoc}
+use Rattle.std.specs.Prelude.{Some, slice_get, slice_set, replicate}
 use Rattle.mars_session.specs.SessionAlone.{BeginsWith}
 
 module _ {A : Type 0} where
@@ -19,17 +18,17 @@ module _ {A : Type 0} where
   next_same [] x y zs a b = cc (a.1, b.1)
   next_same (w ∷ xs) x y [] a b = absurd (cc (a.1))
   next_same (w ∷ xs) x y (z ∷ zs) a b =
-    let tail : (u : A) → (s : List A) → z ∷ zs ≡ (w ∷ xs ++ u ∷ []) ++ s → zs ≡ (xs ++ u ∷ []) ++ s = λ u s e. (cc e) in
-    next_same xs x y zs (a.0, tail x a.0 a.1) (b.0, tail y b.0 b.1)
+      let tail : (u : A) → (s : List A) → z ∷ zs ≡ (w ∷ xs ++ u ∷ []) ++ s → zs ≡ (xs ++ u ∷ []) ++ s = λ u s e. (cc e) in
+      next_same xs x y zs (a.0, tail x a.0 a.1) (b.0, tail y b.0 b.1)
 
   pub begins_length : (xs ys : List A) → BeginsWith xs ys → length xs + 0 ≡ length ys → ys ≡ xs
   begins_length [] [] a e = refl
   begins_length [] (y ∷ ys) a e = absurd (omega (arith, e))
   begins_length (x ∷ xs) [] a e = absurd (omega (arith, e))
   begins_length (x ∷ xs) (y ∷ ys) a e =
-    let head : y ≡ x = (cc (a.1)) in
-    let rest : ys ≡ xs ++ a.0 = (cc (a.1)) in
-    λ i. head i ∷ begins_length xs ys (a.0, rest) (omega (arith, e)) i
+      let head : y ≡ x = (cc (a.1)) in
+      let rest : ys ≡ xs ++ a.0 = (cc (a.1)) in
+      λ i. head i ∷ begins_length xs ys (a.0, rest) (omega (arith, e)) i
 
   pub get_set_same : (xs : List A) (i : ℕ) (x y : A) → slice_get xs i ≡ Some x → slice_get (slice_set xs i y) i ≡ Some y
   get_set_same [] i x y e = absurd cc

@@ -1,11 +1,11 @@
 -- The sessions of an input are numbered in order.
-use Rattle.std.proofs.Common.{◌≡◌, ℕ, zero, suc, ◌+◌, List, [], ◌∷◌, refl, ap, sym, ◌∙◌, arith}
-use Rattle.std.specs.Prelude.{Option, Some, None, slice_get}
+use Rattle.std.proofs.Common.{◌≡◌, ℕ, zero, suc, ◌+◌, List, [], ◌∷◌, ap, sym, ◌∙◌, arith}
+use Rattle.std.specs.Prelude.{Some, slice_get}
 use Rattle.mars_script.specs.declared.script.Script.{Script}
 use Rattle.mars_script.specs.declared.script.Input.{Input}
 use Rattle.mars_script.specs.declared.words.Options.{Options}
-use Rattle.mars_session.specs.SessionPoints.{SessionPart, part_of, parts_from, session_parts}
-use Rattle.mars_session.specs.WorldLaws.{AreNumbered, PartsAreNumbered}
+use Rattle.mars_session.specs.SessionPoints.{SessionPart, part_of, parts_from}
+use Rattle.mars_session.specs.WorldLaws.{PartsAreNumbered}
 
 numbered_from : (input : Input) (options : Options) (who : ℕ) (scripts : List Script) (i : ℕ) (part : SessionPart) → slice_get (parts_from input options who scripts) i ≡ Some part → part.who ≡ who + i
 numbered_from input options who [] i part is = absurd (cc is)

@@ -1,32 +1,28 @@
 -- One order belongs to a history, and one history and text come of a schedule.
-use Rattle.std.proofs.Common.{◌≡◌, ◌≢◌, ℕ, zero, suc, ◌+◌, ◌<◌, ◌≤◌, List, [], ◌∷◌, ◌++◌, length, map, refl, ap, sym, ◌∙◌, subst, arith, append-nil, append_assoc, length-append, inl, inr}
-use Rattle.std.specs.Prelude.{◌⊎◌, Option, Some, None, slice_get, slice_set, Bool, true, false, replicate}
+use Rattle.std.proofs.Common.{◌≡◌, ℕ, zero, suc, List, [], ◌∷◌, ◌++◌, length, map, refl, ap, sym, ◌∙◌, subst, arith, append-nil, length-append, inl, inr}
+use Rattle.std.specs.Prelude.{◌⊎◌, slice_set, replicate}
 use Rattle.std.specs.List.{flat_map}
 use Rattle.std.proofs.lemmas.List.{map-append}
 use Rattle.mars_table.specs.declared.entry.Call.{Call}
-use Rattle.mars_table.specs.declared.entry.Call.TheVariants.{Sweep, Count}
 use Rattle.mars_table.specs.declared.entry.Reply.{Reply}
 use Rattle.mars_table.specs.declared.entry.Reply.TheVariants.{Swept, Counted}
 use Rattle.mars_table.specs.declared.entry.Entry.{Entry}
 use Rattle.mars_rows.specs.Object.{TableObject}
 use Rattle.mars_rows.specs.Sound.{IsSound}
-use Rattle.mars_table.specs.Calls.{MayCall, IsReply, after_call}
-use Rattle.mars_table.specs.History.{call_entry, of, AreReplies, Legal, after_all, after_history}
-use Rattle.mars_table.specs.TableSeen.{TableSeen, uncalled, object_of}
-use Rattle.mars_table.proofs.HistoryLemmas.{legal_is_sound}
+use Rattle.mars_table.specs.History.{call_entry, AreReplies}
+use Rattle.mars_table.specs.TableSeen.{object_of}
 use Rattle.mars_session.specs.Lines.{last_line}
 use Rattle.mars_session.specs.SessionPoints.{SessionPart, SessionPoint, session_start}
-use Rattle.mars_session.specs.SessionEvents.{IsEvent, HasNoCommand, AreEvents, WantsCall, ReachesPoint}
-use Rattle.mars_session.specs.SessionAlone.{BeginsWith, replies_of, calls_of, IsSessionAlone}
-use Rattle.mars_session.specs.WholeRuns.{closing_calls, ClosesWith, ForEach, IsWholeRun, WritesAlone}
-use Rattle.mars_session.specs.Worlds.{World, new_world, with_entries, MakesCalls, MovesSession, Happens, Plays, HasEnded, RunsToEnds, Finishes, IsScheduled, MakesEntry, IsOrderFrom, IsOrderOf}
+use Rattle.mars_session.specs.SessionEvents.{IsEvent, HasNoCommand, AreEvents}
+use Rattle.mars_session.specs.SessionAlone.{BeginsWith, replies_of}
+use Rattle.mars_session.specs.WholeRuns.{closing_calls}
+use Rattle.mars_session.specs.Worlds.{World, new_world, with_entries, MovesSession, Happens, Plays, HasEnded, RunsToEnds, Finishes, MakesEntry, IsOrderFrom}
 use Rattle.mars_session.specs.WorldLaws.{AreNumbered, OrderIsOne, ScheduleIsOne}
-use Rattle.mars_session.proofs.Tables.{replies_on, with_none}
-use Rattle.mars_session.proofs.Worlds.{Sound, happens_sound, plays_sound, runs_sound, begins_sound, sound_table}
+use Rattle.mars_session.proofs.Worlds.{Sound, happens_sound, plays_sound, begins_sound, sound_table}
 use Rattle.mars_table.proofs.CallLemmas.{replies_are_determined}
-use Rattle.mars_session.proofs.Lists.{begins_same, begins_more}
+use Rattle.mars_session.proofs.Lists.{begins_same}
 use Rattle.mars_session.proofs.Places.{cancel}
-use Rattle.mars_session.proofs.Points.{Grows, none, one, grows, next_one, ended_stays, wanted, wants_one, wants_of}
+use Rattle.mars_session.proofs.Points.{Grows, none, one, grows, next_one, ended_stays, wants_one, wants_of}
 use Rattle.mars_session.proofs.Schedules.{silent_first}
 
 -- an event that makes this entry, and one that makes none, aren't both possible
@@ -85,23 +81,23 @@ moves_same part p q r t made others sound nq nr mq mr ra rb = by_growth (grows p
   where
     silent_both : q.mine ≡ p.mine → r.mine ≡ p.mine → SameMade q r made others
     silent_both x y =
-      let no_made : made ≡ [] = made_of part p q made [] mq (x ∙ sym (append-nil p.mine)) in
-      let no_others : others ≡ [] = made_of part p r others [] mr (y ∙ sym (append-nil p.mine)) in
-      record { to = same_next part p q r p.mine nq nr x y; list = no_made ∙ sym no_others }
+        let no_made : made ≡ [] = made_of part p q made [] mq (x ∙ sym (append-nil p.mine)) in
+        let no_others : others ≡ [] = made_of part p r others [] mr (y ∙ sym (append-nil p.mine)) in
+        record { to = same_next part p q r p.mine nq nr x y; list = no_made ∙ sym no_others }
 
     calls_both : (call other : Call) (reply again : Reply) → q.mine ≡ p.mine ++ call_entry part.who call reply ∷ [] → r.mine ≡ p.mine ++ call_entry part.who other again ∷ [] → call ≡ other → SameMade q r made others
     calls_both call other reply again x y same =
-      let y' : r.mine ≡ p.mine ++ call_entry part.who call again ∷ [] = y ∙ ap (λ (c : Call). p.mine ++ call_entry part.who c again ∷ []) (sym same) in
-      let is_made : made ≡ call_entry part.who call reply ∷ [] = made_of part p q made (call_entry part.who call reply ∷ []) mq x in
-      let is_others : others ≡ call_entry part.who call again ∷ [] = made_of part p r others (call_entry part.who call again ∷ []) mr y' in
-      let sa = subst (λ (l : List Entry). AreReplies t l) is_made ra in
-      let sb = subst (λ (l : List Entry). AreReplies t l) is_others rb in
-      let one_reply : reply ≡ again = replies_are_determined t call reply again sound sa.1 sb.1 in
-      let y'' : r.mine ≡ p.mine ++ call_entry part.who call reply ∷ [] = y' ∙ ap (λ (a : Reply). p.mine ++ call_entry part.who call a ∷ []) (sym one_reply) in
-      record {
-        to = same_next part p q r (p.mine ++ call_entry part.who call reply ∷ []) nq nr x y'';
-        list = is_made ∙ ap (λ (a : Reply). call_entry part.who call a ∷ []) one_reply ∙ sym is_others;
-      }
+        let y' : r.mine ≡ p.mine ++ call_entry part.who call again ∷ [] = y ∙ ap (λ (c : Call). p.mine ++ call_entry part.who c again ∷ []) (sym same) in
+        let is_made : made ≡ call_entry part.who call reply ∷ [] = made_of part p q made (call_entry part.who call reply ∷ []) mq x in
+        let is_others : others ≡ call_entry part.who call again ∷ [] = made_of part p r others (call_entry part.who call again ∷ []) mr y' in
+        let sa = subst (λ (l : List Entry). AreReplies t l) is_made ra in
+        let sb = subst (λ (l : List Entry). AreReplies t l) is_others rb in
+        let one_reply : reply ≡ again = replies_are_determined t call reply again sound sa.1 sb.1 in
+        let y'' : r.mine ≡ p.mine ++ call_entry part.who call reply ∷ [] = y' ∙ ap (λ (a : Reply). p.mine ++ call_entry part.who call a ∷ []) (sym one_reply) in
+        record {
+          to = same_next part p q r (p.mine ++ call_entry part.who call reply ∷ []) nq nr x y'';
+          list = is_made ∙ ap (λ (a : Reply). call_entry part.who call a ∷ []) one_reply ∙ sym is_others;
+        }
 
     by_growth : Grows part p q → Grows part p r → SameMade q r made others
     by_growth (none x) (none y) = silent_both x y
@@ -124,17 +120,17 @@ module _ (parts : List SessionPart) (rows : ℕ) (numbered : AreNumbered parts) 
       by_event (inl e) (inr m) = absurd (ended_stays x.part x.point m.to e.0 (subst (λ (t : SessionPart). IsEvent t x.point m.to) one_part (subst (λ (t : SessionPoint). IsEvent y.part t m.to) one_point m.event)))
       by_event (inr m) (inl f) = absurd (ended_stays y.part y.point m.to f.0 (subst (λ (t : SessionPart). IsEvent t y.point m.to) (sym one_part) (subst (λ (t : SessionPoint). IsEvent x.part t m.to) (sym one_point) m.event)))
       by_event (inr m) (inr n) =
-        let next : IsEvent x.part x.point n.to = subst (λ (t : SessionPart). IsEvent t x.point n.to) one_part (subst (λ (t : SessionPoint). IsEvent y.part t n.to) one_point n.event) in
-        let makes : n.to.mine ≡ x.point.mine ++ n.made = n.makes ∙ ap (λ (t : SessionPoint). t.mine ++ n.made) one_point in
-        let s = moves_same x.part x.point m.to n.to (object_of w.table) m.made n.made (sound_table parts rows w sound) m.event next m.makes makes m.table.replies n.table.replies in
-        let table : a.table ≡ b.table = m.table.table ∙ ap (λ (l : List Entry). with_entries w.table l) s.list ∙ sym n.table.table in
-        let points : a.points ≡ b.points = m.points ∙ ap (λ (t : SessionPoint). slice_set w.points i t) s.to ∙ sym n.points in
-        λ k. record { table = table k; points = points k }
+          let next : IsEvent x.part x.point n.to = subst (λ (t : SessionPart). IsEvent t x.point n.to) one_part (subst (λ (t : SessionPoint). IsEvent y.part t n.to) one_point n.event) in
+          let makes : n.to.mine ≡ x.point.mine ++ n.made = n.makes ∙ ap (λ (t : SessionPoint). t.mine ++ n.made) one_point in
+          let s = moves_same x.part x.point m.to n.to (object_of w.table) m.made n.made (sound_table parts rows w sound) m.event next m.makes makes m.table.replies n.table.replies in
+          let table : a.table ≡ b.table = m.table.table ∙ ap (λ (l : List Entry). with_entries w.table l) s.list ∙ sym n.table.table in
+          let points : a.points ≡ b.points = m.points ∙ ap (λ (t : SessionPoint). slice_set w.points i t) s.to ∙ sym n.points in
+          λ k. record { table = table k; points = points k }
 
   plays_one : (w a b : World) (order : List ℕ) → Sound parts rows w → Plays parts w order a → Plays parts w order b → a ≡ b
   plays_one w a b [] sound x y = x ∙ sym y
   plays_one w a b (i ∷ order) sound x y =
-    plays_one x.0 a b order (happens_sound parts rows i w x.0 numbered sound x.1) x.2 (subst (λ (m : World). Plays parts m order b) (sym (happens_one i w x.0 y.0 sound x.1 y.1)) y.2)
+      plays_one x.0 a b order (happens_sound parts rows i w x.0 numbered sound x.1) x.2 (subst (λ (m : World). Plays parts m order b) (sym (happens_one i w x.0 y.0 sound x.1 y.1)) y.2)
 
   ended_still : (i : ℕ) (w a : World) → Sound parts rows w → HasEnded parts i w → Happens parts i w a → a ≡ w
   ended_still i w a sound e h = happens_one i w a w sound h (record { part = e.part; point = e.point; is_part = e.is_part; is_point = e.is_point; event = inl (e.ended, refl) })
@@ -147,13 +143,13 @@ module _ (parts : List SessionPart) (rows : ℕ) (numbered : AreNumbered parts) 
   to_end_one i zero j w a b sound x y ea eb = x ∙ sym (ended_plays i j w b sound (subst (λ (m : World). HasEnded parts i m) x ea) y)
   to_end_one i (suc k) zero w a b sound x y ea eb = ended_plays i (suc k) w a sound (subst (λ (m : World). HasEnded parts i m) y eb) x ∙ sym y
   to_end_one i (suc k) (suc j) w a b sound x y ea eb =
-    to_end_one i k j x.0 a b (happens_sound parts rows i w x.0 numbered sound x.1) x.2 (subst (λ (m : World). Plays parts m (replicate j i) b) (sym (happens_one i w x.0 y.0 sound x.1 y.1)) y.2) ea eb
+      to_end_one i k j x.0 a b (happens_sound parts rows i w x.0 numbered sound x.1) x.2 (subst (λ (m : World). Plays parts m (replicate j i) b) (sym (happens_one i w x.0 y.0 sound x.1 y.1)) y.2) ea eb
 
   runs_one : (i n : ℕ) (w a b : World) → Sound parts rows w → RunsToEnds parts i n w a → RunsToEnds parts i n w b → a ≡ b
   runs_one i zero w a b sound x y = x ∙ sym y
   runs_one i (suc n) w a b sound x y =
-    let same : x.1 ≡ y.1 = to_end_one i x.0 y.0 w x.1 y.1 sound x.2 y.2 x.3 y.3 in
-    runs_one (suc i) n x.1 a b (plays_sound parts rows (replicate x.0 i) w x.1 numbered sound x.2) x.4 (subst (λ (m : World). RunsToEnds parts (suc i) n m b) (sym same) y.4)
+      let same : x.1 ≡ y.1 = to_end_one i x.0 y.0 w x.1 y.1 sound x.2 y.2 x.3 y.3 in
+      runs_one (suc i) n x.1 a b (plays_sound parts rows (replicate x.0 i) w x.1 numbered sound x.2) x.4 (subst (λ (m : World). RunsToEnds parts (suc i) n m b) (sym same) y.4)
 
 finishes_one : (parts : List SessionPart) (w : World) (history other : List Entry) (text again : List ℕ) → Finishes parts w history text → Finishes parts w other again → (history ≡ other) × (text ≡ again)
 finishes_one parts w history other text again x y =
@@ -162,9 +158,10 @@ finishes_one parts w history other text again x y =
     let second : Counted x.rows x.pins ≡ Counted y.rows y.pins = x.replies.2.1 ∙ sym y.replies.2.1 in
     let gone : x.gone ≡ y.gone = (cc first) in
     let rows : x.rows ≡ y.rows = (cc second) in
-    let pins : x.pins ≡ y.pins = (cc second) in
-    (x.history_is ∙ (λ k. w.table.history ++ closing_calls n (gone k) (rows k) (pins k)) ∙ sym y.history_is,
-     x.text_is ∙ (λ k. flat_map (λ (p : SessionPoint). p.before) w.points ++ last_line (gone k) (rows k) (pins k)) ∙ sym y.text_is)
+    let pins : x.pins ≡ y.pins = (cc second) in (
+      x.history_is ∙ (λ k. w.table.history ++ closing_calls n (gone k) (rows k) (pins k)) ∙ sym y.history_is,
+      x.text_is ∙ (λ k. flat_map (λ (p : SessionPoint). p.before) w.points ++ last_line (gone k) (rows k) (pins k)) ∙ sym y.text_is,
+    )
 
 pub schedule_is_one : ScheduleIsOne
 schedule_is_one parts rows order history other text again numbered x y =

@@ -1,7 +1,7 @@
 -- What the layers above know of a session's events. Nothing above this file looks into `ActsAt` or `IsAskEvent`.
-use Rattle.std.proofs.Common.{◌≡◌, ◌≢◌, ℕ, zero, suc, ◌+◌, ◌<◌, ◌≤◌, List, [], ◌∷◌, ◌++◌, length, map, refl, ap, sym, ◌∙◌, subst, arith, append-nil, append_assoc, length-append, inl, inr}
-use Rattle.std.specs.Prelude.{◌⊎◌, Option, Some, None, slice_get, All, Bool, true, false}
-use Rattle.std.proofs.lemmas.List.{map-append, length-map}
+use Rattle.std.proofs.Common.{◌≡◌, ℕ, zero, suc, List, [], ◌∷◌, ◌++◌, length, refl, ap, sym, ◌∙◌, subst, arith, append-nil, length-append}
+use Rattle.std.specs.Prelude.{Option, Some, slice_get, Bool, true, false}
+use Rattle.std.proofs.lemmas.List.{map-append}
 use Rattle.mars_tree.specs.declared.label.NameId.{NameId}
 use Rattle.mars_script.specs.declared.script.Command.{Command}
 use Rattle.mars_table.specs.declared.entry.Call.{Call}
@@ -11,12 +11,12 @@ use Rattle.mars_table.specs.History.{call_entry}
 use Rattle.mars_session.specs.SessionPoints.{SessionPart, SessionPoint, session_start}
 use Rattle.mars_session.specs.CommandActs.{CommandAct, Writes, Uses, Asks, TableUse, ActsAt, AnswersCall, call_of, use_line}
 use Rattle.mars_session.specs.AskEvents.{AskEvent}
-use Rattle.mars_session.specs.SessionEvents.{command_done, answered, stepped_by, DoesAct, IsEvent, HasNoCommand, WantsCall, AreEvents, ReachesPoint}
-use Rattle.mars_session.specs.SessionAlone.{BeginsWith, replies_of, calls_of, ComesTo, at_end, at_call, IsSessionAlone}
+use Rattle.mars_session.specs.SessionEvents.{answered, stepped_by, DoesAct, IsEvent, HasNoCommand, WantsCall, AreEvents, ReachesPoint}
+use Rattle.mars_session.specs.SessionAlone.{BeginsWith, replies_of, calls_of, ComesTo, at_end, at_call}
 use Rattle.mars_session.specs.SessionLaws.{AloneIsOne, AloneGrows}
 use Rattle.mars_session.proofs.Acts.{acts_one}
 use Rattle.mars_session.proofs.AskOnes.{event_once}
-use Rattle.mars_session.proofs.Lists.{begins_same, begins_more, begins_on, next_same, begins_length}
+use Rattle.mars_session.proofs.Lists.{begins_same, begins_more, begins_on, next_same}
 
 some_same : {A : Type 0} {o : Option A} {x y : A} → o ≡ Some x → o ≡ Some y → x ≡ y
 some_same p q = cc (p, q)
@@ -44,7 +44,7 @@ does_one : (part : SessionPart) (act : CommandAct) (given : List Reply) (p q r :
 does_one part (Writes line) given p q r a b x y = a ∙ sym b
 does_one part (Uses wish) given p q r a b x y =
     let told : (reply : Reply) (z : SessionPoint) → z ≡ answered part wish reply p → BeginsWith (replies_of z.mine) given → BeginsWith (replies_of p.mine ++ reply ∷ []) given =
-        λ reply z e begins. subst (λ (l : List Reply). BeginsWith l given) (ap (λ (z : SessionPoint). replies_of z.mine) e ∙ map-append (λ (e : Entry). e.reply) p.mine (call_entry part.who (call_of wish) reply ∷ [])) begins in
+    λ reply z e begins. subst (λ (l : List Reply). BeginsWith l given) (ap (λ (z : SessionPoint). replies_of z.mine) e ∙ map-append (λ (e : Entry). e.reply) p.mine (call_entry part.who (call_of wish) reply ∷ [])) begins in
     let same : a.0 ≡ b.0 = next_same (replies_of p.mine) a.0 b.0 given (told a.0 q a.2 x) (told b.0 r b.2 y) in
     a.2 ∙ ap (λ reply. answered part wish reply p) same ∙ sym b.2
 does_one part (Asks ask kept) given p q r a b x y =

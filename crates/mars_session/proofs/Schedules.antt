@@ -1,29 +1,29 @@
 -- A whole run is the run of a schedule.
-use Rattle.std.proofs.Common.{◌≡◌, ◌≢◌, ℕ, zero, suc, ◌+◌, ◌<◌, ◌≤◌, List, [], ◌∷◌, ◌++◌, length, map, refl, ap, sym, ◌∙◌, subst, arith, append-nil, append_assoc, length-append, inl, inr}
-use Rattle.std.specs.Prelude.{◌⊎◌, Option, Some, None, slice_get, slice_set, All, Bool, true, false, filter, nat_eq, replicate}
+use Rattle.std.proofs.Common.{◌≡◌, ◌≢◌, ℕ, zero, suc, ◌+◌, ◌<◌, List, [], ◌∷◌, ◌++◌, length, map, refl, ap, sym, ◌∙◌, subst, arith, append-nil, append_assoc, length-append, inl, inr}
+use Rattle.std.specs.Prelude.{Some, slice_get, slice_set, All, nat_eq, replicate}
 use Rattle.std.specs.List.{flat_map}
-use Rattle.std.proofs.lemmas.List.{map-append, length-map}
-use Rattle.std.proofs.lemmas.List.Elements.{All-nil, All-cons, All-append, All-head, All-tail, filter-append}
-use Rattle.std.proofs.lemmas.Bool.{eqb-true, eq-eqb}
+use Rattle.std.proofs.lemmas.List.{length-map}
+use Rattle.std.proofs.lemmas.List.Elements.{All-head, All-tail, filter-append}
+use Rattle.std.proofs.lemmas.Bool.{eq-eqb}
 use Rattle.std.proofs.lemmas.Bool.Decides.{eqb_tells}
 use Rattle.std.proofs.lemmas.Option.{slice_get_within, slice_get_past}
 use Rattle.mars_table.specs.declared.entry.Entry.{Entry}
 use Rattle.mars_table.specs.declared.entry.Call.TheVariants.{Sweep, Count}
 use Rattle.mars_table.specs.declared.entry.Reply.TheVariants.{Swept, Counted}
-use Rattle.mars_table.specs.History.{call_entry, of, AreReplies, Legal, after_all, after_history}
+use Rattle.mars_table.specs.History.{call_entry, of, AreReplies}
 use Rattle.mars_table.specs.TableSeen.{TableSeen, uncalled, object_of}
 use Rattle.mars_session.specs.Lines.{last_line}
 use Rattle.mars_session.specs.SessionPoints.{SessionPart, SessionPoint, session_start}
-use Rattle.mars_session.specs.SessionEvents.{IsEvent, HasNoCommand, AreEvents, WantsCall, ReachesPoint}
-use Rattle.mars_session.specs.SessionAlone.{BeginsWith, replies_of, calls_of, IsSessionAlone}
-use Rattle.mars_session.specs.WholeRuns.{closing_calls, ClosesWith, ForEach, IsWholeRun, WritesAlone}
-use Rattle.mars_session.specs.Worlds.{World, new_world, with_entries, MakesCalls, MovesSession, Happens, Plays, HasEnded, RunsToEnds, Finishes, IsScheduled, MakesEntry, IsOrderFrom, IsOrderOf}
+use Rattle.mars_session.specs.SessionEvents.{IsEvent, HasNoCommand, AreEvents, ReachesPoint}
+use Rattle.mars_session.specs.SessionAlone.{BeginsWith}
+use Rattle.mars_session.specs.WholeRuns.{closing_calls}
+use Rattle.mars_session.specs.Worlds.{World, new_world, with_entries, Happens, Plays, HasEnded, RunsToEnds, MakesEntry, IsOrderFrom, IsOrderOf}
 use Rattle.mars_session.specs.WorldLaws.{AreNumbered, HistoryIsASchedule}
 use Rattle.mars_session.proofs.Tables.{replies_apart, with_none, with_more, object_with}
-use Rattle.mars_session.proofs.Lists.{begins_same, begins_more, begins_on, get_set_same, get_set_other, set_same, set_twice, length_set, replicate_snoc}
+use Rattle.mars_session.proofs.Lists.{get_set_same, get_set_other, set_same, set_twice, length_set, replicate_snoc}
 use Rattle.mars_session.proofs.Places.{cancel, get_some, same_places, choose, same_joined}
 use Rattle.mars_session.proofs.Points.{Grows, none, one, grows, after_mine}
-use Rattle.mars_session.proofs.Closed.{EndedWith, ended_with, of_own}
+use Rattle.mars_session.proofs.Closed.{ended_with, of_own}
 
 -- The events up to the next entry.
 
@@ -41,22 +41,30 @@ split part (suc k) p end e rest a is = by_growth part k p end e rest a is (λ mo
   where
     further : (part : SessionPart) (p m end : SessionPoint) (e : Entry) (rest : List Entry) → IsEvent part p m → m.mine ≡ p.mine → Split part m e rest end → Split part p e rest end
     further part p m end e rest next same s = record {
-        n = suc s.n; at = s.at; left = s.left; after = s.after; mine = s.mine;
-        makes = record { until = s.makes.until; steps = (m, next, s.makes.steps); none = s.makes.none ∙ same; last = s.makes.last; makes = s.makes.makes ∙ ap (λ (l : List Entry). l ++ e ∷ []) same };
-      }
+      n = suc s.n;
+      at = s.at;
+      left = s.left;
+      after = s.after;
+      mine = s.mine;
+      makes = record { until = s.makes.until; steps = (m, next, s.makes.steps); none = s.makes.none ∙ same; last = s.makes.last; makes = s.makes.makes ∙ ap (λ (l : List Entry). l ++ e ∷ []) same };
+    }
 
     by_growth : (part : SessionPart) (k : ℕ) (p end : SessionPoint) (e : Entry) (rest : List Entry) → (a : AreEvents part (suc k) p end) → end.mine ≡ p.mine ++ e ∷ rest → (end.mine ≡ a.0.mine ++ e ∷ rest → Split part a.0 e rest end) → Grows part p a.0 → Split part p e rest end
     by_growth part k p end e rest a is again (none same) = further part p a.0 end e rest a.1 same (again (is ∙ ap (λ (l : List Entry). l ++ e ∷ rest) (sym same)))
     by_growth part k p end e rest a is again (one call reply fits more) =
-      let on = after_mine part k a.0 end a.2 in
-      let both : p.mine ++ (call_entry part.who call reply ∷ on.0) ≡ p.mine ++ e ∷ rest = sym (append_assoc p.mine (call_entry part.who call reply ∷ []) on.0) ∙ ap (λ (l : List Entry). l ++ on.0) (sym more) ∙ sym on.1 ∙ is in
-      let items = cancel p.mine (call_entry part.who call reply ∷ on.0) (e ∷ rest) both in
-      let first : call_entry part.who call reply ≡ e = (cc items) in
-      let others : on.0 ≡ rest = (cc items) in
-      record {
-        n = zero; at = a.0; left = k; after = a.2; mine = on.1 ∙ ap (λ (l : List Entry). a.0.mine ++ l) others;
-        makes = record { until = p; steps = refl; none = refl; last = a.1; makes = more ∙ ap (λ (x : Entry). p.mine ++ x ∷ []) first };
-      }
+        let on = after_mine part k a.0 end a.2 in
+        let both : p.mine ++ (call_entry part.who call reply ∷ on.0) ≡ p.mine ++ e ∷ rest = sym (append_assoc p.mine (call_entry part.who call reply ∷ []) on.0) ∙ ap (λ (l : List Entry). l ++ on.0) (sym more) ∙ sym on.1 ∙ is in
+        let items = cancel p.mine (call_entry part.who call reply ∷ on.0) (e ∷ rest) both in
+        let first : call_entry part.who call reply ≡ e = (cc items) in
+        let others : on.0 ≡ rest = (cc items) in
+        record {
+          n = zero;
+          at = a.0;
+          left = k;
+          after = a.2;
+          mine = on.1 ∙ ap (λ (l : List Entry). a.0.mine ++ l) others;
+          makes = record { until = p; steps = refl; none = refl; last = a.1; makes = more ∙ ap (λ (x : Entry). p.mine ++ x ∷ []) first };
+        }
 
 -- Events played in the world.
 
@@ -89,9 +97,12 @@ silent parts part i (suc k) p q w is_part is_point a same =
     let mid : World = record { table = w.table; points = slice_set w.points i m } in
     let rest = silent parts part i k m q mid is_part (get_set_same w.points i p m is_point) a.2 (same ∙ sym none) in
     let event : Happens parts i w mid = record {
-        part = part; point = p; is_part = is_part; is_point = is_point;
-        event = inr (record { to = m; event = a.1; made = []; makes = none ∙ sym (append-nil p.mine); table = record { replies = tt; table = sym (with_none w.table) }; points = refl });
-      } in
+      part = part;
+      point = p;
+      is_part = is_part;
+      is_point = is_point;
+      event = inr (record { to = m; event = a.1; made = []; makes = none ∙ sym (append-nil p.mine); table = record { replies = tt; table = sym (with_none w.table) }; points = refl });
+    } in
     (rest.0, (mid, event, rest.1), record { table = rest.2.table; points = rest.2.points ∙ set_twice w.points i m q })
 
 -- events up to an entry, which is played on the table
@@ -106,16 +117,24 @@ makes_plays parts part i n p q e w is_part is_point makes replies =
     let mid = before.0 in
     let new : World = record { table = with_entries mid.table (e ∷ []); points = slice_set mid.points i q } in
     let event : Happens parts i mid new = record {
-        part = part; point = makes.until; is_part = is_part;
-        is_point = ap (λ (l : List SessionPoint). slice_get l i) before.2.points ∙ get_set_same w.points i p makes.until is_point;
-        event = inr (record {
-          to = q; event = makes.last; made = e ∷ []; makes = makes.makes ∙ ap (λ (l : List Entry). l ++ e ∷ []) (sym makes.none);
-          table = record { replies = subst (λ (t : TableSeen). AreReplies (object_of t) (e ∷ [])) (sym before.2.table) replies; table = refl }; points = refl;
-        });
-      } in
-    let all = plays_append parts w mid new (replicate n i) (i ∷ []) before.1 (new, event, refl) in
-    (new, subst (λ (l : List ℕ). Plays parts w l new) (replicate_snoc n i) all,
-      record { table = ap (λ (t : TableSeen). with_entries t (e ∷ [])) before.2.table; points = ap (λ (l : List SessionPoint). slice_set l i q) before.2.points ∙ set_twice w.points i makes.until q })
+      part = part;
+      point = makes.until;
+      is_part = is_part;
+      is_point = ap (λ (l : List SessionPoint). slice_get l i) before.2.points ∙ get_set_same w.points i p makes.until is_point;
+      event = inr (record {
+        to = q;
+        event = makes.last;
+        made = e ∷ [];
+        makes = makes.makes ∙ ap (λ (l : List Entry). l ++ e ∷ []) (sym makes.none);
+        table = record { replies = subst (λ (t : TableSeen). AreReplies (object_of t) (e ∷ [])) (sym before.2.table) replies; table = refl };
+        points = refl;
+      });
+    } in
+    let all = plays_append parts w mid new (replicate n i) (i ∷ []) before.1 (new, event, refl) in (
+      new,
+      subst (λ (l : List ℕ). Plays parts w l new) (replicate_snoc n i) all,
+      record { table = ap (λ (t : TableSeen). with_entries t (e ∷ [])) before.2.table; points = ap (λ (l : List SessionPoint). slice_set l i q) before.2.points ∙ set_twice w.points i makes.until q },
+    )
 
 -- From p a session comes to its end with the entries that the rest of the history has of it.
 pub record GoesTo (history : List Entry) (part : SessionPart) (p end : SessionPoint) : Type 0 where
@@ -138,18 +157,18 @@ go_on : (parts : List SessionPart) (numbered : AreNumbered parts) (e : Entry) (h
     → slice_get parts e.who ≡ Some part → slice_get points e.who ≡ Some p → slice_get ends e.who ≡ Some end → GoesTo history part q end → AllGo (e ∷ history) parts points ends → AllGo history parts (slice_set points e.who q) ends
 go_on parts numbered e history points ends p q end part is_part is_point is_end goes all j part' p' end' at_part at_point at_end =
     elim (eqb_tells j e.who) [
-      inl t ↦
-        let one_part : part ≡ part' = (cc (is_part, at_part, t.1)) in
-        let one_end : end ≡ end' = (cc (is_end, at_end, t.1)) in
-        let here : slice_get (slice_set points e.who q) e.who ≡ Some p' = subst (λ (k : ℕ). slice_get (slice_set points e.who q) k ≡ Some p') t.1 at_point in
-        let there : slice_get (slice_set points e.who q) e.who ≡ Some q = get_set_same points e.who p q is_point in
-        let one_point : q ≡ p' = (cc (here, there)) in
-        subst (λ (x : SessionPoint). GoesTo history part' p' x) one_end (subst (λ (x : SessionPoint). GoesTo history part' x end) one_point (subst (λ (x : SessionPart). GoesTo history x q end) one_part goes))
-    | inr t ↦
-        let there : slice_get points j ≡ Some p' = sym (get_set_other points e.who j q t.1) ∙ at_point in
-        let g = all j part' p' end' at_part there at_end in
-        let other : e.who ≢ part'.who = λ same. t.1 (sym (numbered j part' at_part) ∙ sym same) in
-        record { count = g.count; steps = g.steps; ended = g.ended; mine = g.mine ∙ ap (λ (l : List Entry). p'.mine ++ l) (other_first e history part'.who other) }
+      | inl t ↦
+          let one_part : part ≡ part' = (cc (is_part, at_part, t.1)) in
+          let one_end : end ≡ end' = (cc (is_end, at_end, t.1)) in
+          let here : slice_get (slice_set points e.who q) e.who ≡ Some p' = subst (λ (k : ℕ). slice_get (slice_set points e.who q) k ≡ Some p') t.1 at_point in
+          let there : slice_get (slice_set points e.who q) e.who ≡ Some q = get_set_same points e.who p q is_point in
+          let one_point : q ≡ p' = (cc (here, there)) in
+          subst (λ (x : SessionPoint). GoesTo history part' p' x) one_end (subst (λ (x : SessionPoint). GoesTo history part' x end) one_point (subst (λ (x : SessionPart). GoesTo history x q end) one_part goes))
+      | inr t ↦
+          let there : slice_get points j ≡ Some p' = sym (get_set_other points e.who j q t.1) ∙ at_point in
+          let g = all j part' p' end' at_part there at_end in
+          let other : e.who ≢ part'.who = λ same. t.1 (sym (numbered j part' at_part) ∙ sym same) in
+          record { count = g.count; steps = g.steps; ended = g.ended; mine = g.mine ∙ ap (λ (l : List Entry). p'.mine ++ l) (other_first e history part'.who other) }
     ]
 
 pub record Walked (parts : List SessionPart) (history after : List Entry) (ends : List SessionPoint) (old : World) : Type 0 where
@@ -164,8 +183,14 @@ pub record Walked (parts : List SessionPart) (history after : List Entry) (ends 
 pub walk : (parts : List SessionPart) (numbered : AreNumbered parts) (history after : List Entry) (ends : List SessionPoint) (old : World)
     → length old.points ≡ length parts → length ends ≡ length parts → All (λ (e : Entry). e.who < length parts) history → AllGo (history ++ after) parts old.points ends → AreReplies (object_of old.table) history → Walked parts history after ends old
 walk parts numbered [] after ends old count counts own go run = record {
-    order = []; new = old; orders = refl; plays = refl; table = sym (with_none old.table); count = count; go = go;
-  }
+  order = [];
+  new = old;
+  orders = refl;
+  plays = refl;
+  table = sym (with_none old.table);
+  count = count;
+  go = go;
+}
 walk parts numbered (e ∷ history) after ends old count counts own go run =
     let within : e.who < length parts = All-head (λ (e : Entry). e.who < length parts) e history own in
     let part = get_some parts e.who within in
@@ -178,9 +203,9 @@ walk parts numbered (e ∷ history) after ends old count counts own go run =
     let mid = played.0 in
     let still = go_on parts numbered e (history ++ after) old.points ends p.0 s.at end.0 part.0 part.1 p.1 end.1 (record { count = s.left; steps = s.after; ended = g.ended; mine = s.mine }) go in
     let rest = walk parts numbered history after ends mid (ap (λ (l : List SessionPoint). length l) played.2.points ∙ length_set old.points e.who s.at ∙ count) counts
-          (All-tail (λ (e : Entry). e.who < length parts) e history own)
-          (subst (λ (l : List SessionPoint). AllGo (history ++ after) parts l ends) (sym played.2.points) still)
-          (subst (λ (t : TableSeen). AreReplies (object_of t) history) (sym played.2.table) (object_with old.table (e ∷ []) history run.2)) in
+    (All-tail (λ (e : Entry). e.who < length parts) e history own)
+    (subst (λ (l : List SessionPoint). AllGo (history ++ after) parts l ends) (sym played.2.points) still)
+    (subst (λ (t : TableSeen). AreReplies (object_of t) history) (sym played.2.table) (object_with old.table (e ∷ []) history run.2)) in
     record {
       order = replicate (suc s.n) e.who ++ rest.order;
       new = rest.new;
@@ -214,24 +239,27 @@ finish parts i (suc n) ends old is count counts go done =
     let at_end : slice_get mid.points i ≡ Some end.0 = ap (λ (l : List SessionPoint). slice_get l i) ran.2.points ∙ get_set_same old.points i p.0 end.0 p.1 in
     let ended : HasEnded parts i mid = record { part = part.0; point = end.0; is_part = part.1; is_point = at_end; ended = g.ended } in
     let still : AllGo [] parts mid.points ends = λ j part' p' end' at_part at_point at_end'. elim (eqb_tells j i) [
-          inl t ↦
-            let one_part : part.0 ≡ part' = (cc (part.1, at_part, t.1)) in
-            let one_end : end.0 ≡ end' = (cc (end.1, at_end', t.1)) in
-            let one_point : end.0 ≡ p' = (cc (at_end, at_point, t.1)) in
-            subst (λ (x : SessionPoint). GoesTo [] part' p' x) one_end (subst (λ (x : SessionPoint). GoesTo [] part' x end.0) one_point (subst (λ (x : SessionPart). GoesTo [] x end.0 end.0) one_part
-              (record { count = zero; steps = refl; ended = g.ended; mine = sym (append-nil end.0.mine) })))
-        | inr t ↦
-            let there : slice_get old.points j ≡ Some p' = sym (get_set_other old.points i j end.0 t.1) ∙ sym (ap (λ (l : List SessionPoint). slice_get l j) ran.2.points) ∙ at_point in
-            go j part' p' end' at_part there at_end'
-        ] in
+      | inl t ↦
+          let one_part : part.0 ≡ part' = (cc (part.1, at_part, t.1)) in
+          let one_end : end.0 ≡ end' = (cc (end.1, at_end', t.1)) in
+          let one_point : end.0 ≡ p' = (cc (at_end, at_point, t.1)) in
+          subst (λ (x : SessionPoint). GoesTo [] part' p' x) one_end (subst (λ (x : SessionPoint). GoesTo [] part' x end.0) one_point (subst (λ (x : SessionPart). GoesTo [] x end.0 end.0) one_part
+          (record { count = zero; steps = refl; ended = g.ended; mine = sym (append-nil end.0.mine) })))
+      | inr t ↦
+          let there : slice_get old.points j ≡ Some p' = sym (get_set_other old.points i j end.0 t.1) ∙ sym (ap (λ (l : List SessionPoint). slice_get l j) ran.2.points) ∙ at_point in
+          go j part' p' end' at_part there at_end'
+    ] in
     let rest = finish parts (suc i) n ends mid (omega (arith, is)) (ap (λ (l : List SessionPoint). length l) ran.2.points ∙ length_set old.points i end.0 ∙ count) counts still
-          (λ j p' end' lt at_point at_end'. elim (eqb_tells j i) [
-            inl t ↦ (cc (end.1, at_end, at_point, at_end', t.1))
-          | inr t ↦ done j p' end' (omega (arith, lt, t.1)) (sym (get_set_other old.points i j end.0 t.1) ∙ sym (ap (λ (l : List SessionPoint). slice_get l j) ran.2.points) ∙ at_point) at_end'
-          ]) in
+    (λ j p' end' lt at_point at_end'. elim (eqb_tells j i) [
+      | inl t ↦ (cc (end.1, at_end, at_point, at_end', t.1))
+      | inr t ↦ done j p' end' (omega (arith, lt, t.1)) (sym (get_set_other old.points i j end.0 t.1) ∙ sym (ap (λ (l : List SessionPoint). slice_get l j) ran.2.points) ∙ at_point) at_end'
+    ]) in
     record {
-      new = rest.new; runs = (g.count, mid, ran.1, ended, rest.runs); table = rest.table ∙ ran.2.table;
-      count = rest.count; at_ends = λ j p' end' lt. rest.at_ends j p' end' (omega (arith, lt));
+      new = rest.new;
+      runs = (g.count, mid, ran.1, ended, rest.runs);
+      table = rest.table ∙ ran.2.table;
+      count = rest.count;
+      at_ends = λ j p' end' lt. rest.at_ends j p' end' (omega (arith, lt));
     }
 
 -- All together.
@@ -260,31 +288,38 @@ history_is_a_schedule parts cap history text numbered whole =
     let sessions = closes.sessions in
     let run = replies_apart (object_of (uncalled cap)) sessions (closing_calls (length parts) closes.gone closes.rows closes.pins) (subst (λ (l : List Entry). AreReplies (object_of (uncalled cap)) l) closes.entries whole.legal) in
     let chosen = choose (λ (part : SessionPart) (text : List ℕ) (end : SessionPoint). ReachesPoint part end × HasNoCommand part end × (end.mine ≡ of sessions part.who) × (text ≡ end.before)) parts whole.texts whole.each.count
-          (λ i part text at_part at_text.
-            let who : part.who < length parts = subst (λ (k : ℕ). k < length parts) (sym (numbered i part at_part)) (slice_get_within parts i part at_part) in
-            let w = ended_with part (of history part.who) text (of_own history part.who) (whole.each.each i part text at_part at_text) in
-            let mine : of history part.who ≡ of sessions part.who = ap (λ (l : List Entry). of l part.who) closes.entries ∙ of_closing (length parts) part.who closes.gone closes.rows closes.pins sessions who in
-            (w.point, (w.reached, w.ended, w.mine_is ∙ mine, w.text_is))) in
+    (λ i part text at_part at_text.
+    let who : part.who < length parts = subst (λ (k : ℕ). k < length parts) (sym (numbered i part at_part)) (slice_get_within parts i part at_part) in
+    let w = ended_with part (of history part.who) text (of_own history part.who) (whole.each.each i part text at_part at_text) in
+    let mine : of history part.who ≡ of sessions part.who = ap (λ (l : List Entry). of l part.who) closes.entries ∙ of_closing (length parts) part.who closes.gone closes.rows closes.pins sessions who in
+    (w.point, (w.reached, w.ended, w.mine_is ∙ mine, w.text_is))) in
     let ends = chosen.0 in
     let go : (i : ℕ) (part : SessionPart) (p end : SessionPoint) → slice_get parts i ≡ Some part → slice_get (map session_start parts) i ≡ Some p → slice_get ends i ≡ Some end → GoesTo sessions part p end =
-          λ i part p end at_part at_point at_end.
-            let text = get_some whole.texts i (subst (λ (n : ℕ). i < n) (sym whole.each.count) (slice_get_within parts i part at_part)) in
-            let c = chosen.2 i part text.0 end at_part text.1 at_end in
-            subst (λ (x : SessionPoint). GoesTo sessions part x end) (sym (map_places parts i part p at_part at_point))
-              (record { count = c.0.0; steps = c.0.1; ended = c.1; mine = c.2 }) in
+    λ i part p end at_part at_point at_end.
+    let text = get_some whole.texts i (subst (λ (n : ℕ). i < n) (sym whole.each.count) (slice_get_within parts i part at_part)) in
+    let c = chosen.2 i part text.0 end at_part text.1 at_end in
+    subst (λ (x : SessionPoint). GoesTo sessions part x end) (sym (map_places parts i part p at_part at_point))
+    (record { count = c.0.0; steps = c.0.1; ended = c.1; mine = c.2 }) in
     let walked = walk parts numbered sessions [] ends (new_world parts cap) (length-map parts session_start) chosen.1 closes.own (λ i part p end a b c. let g = go i part p end a b c in record { count = g.count; steps = g.steps; ended = g.ended; mine = g.mine ∙ ap (λ (l : List Entry). p.mine ++ of l part.who) (sym (append-nil sessions)) }) run.0 in
     let done = finish parts 0 (length parts) ends walked.new (omega arith) walked.count chosen.1 walked.go (λ j p end lt. absurd (omega (arith, lt))) in
     let points : done.new.points ≡ ends = same_places done.new.points ends (done.count ∙ sym chosen.1) (λ i x y at_x at_y. done.at_ends i x y (subst (λ (n : ℕ). i < 0 + n) done.count (omega (arith, slice_get_within done.new.points i x at_x))) at_x at_y) in
     let texts : flat_map (λ (t : List ℕ). t) whole.texts ≡ flat_map (λ (p : SessionPoint). p.before) ends = same_joined (λ (t : List ℕ). t) (λ (p : SessionPoint). p.before) whole.texts ends (whole.each.count ∙ sym chosen.1)
-          (λ i t end at_text at_end. let part = get_some parts i (subst (λ (n : ℕ). i < n) whole.each.count (slice_get_within whole.texts i t at_text)) in
-            let c = chosen.2 i part.0 t end part.1 at_text at_end in c.3) in
-    (walked.order, subst (λ (l : List Entry). IsOrderOf parts l walked.order) (sym closes.entries) (orders_closing parts (map session_start parts) sessions walked.order closes.gone closes.rows closes.pins walked.orders),
+    (λ i t end at_text at_end. let part = get_some parts i (subst (λ (n : ℕ). i < n) whole.each.count (slice_get_within whole.texts i t at_text)) in
+    let c = chosen.2 i part.0 t end part.1 at_text at_end in c.3) in (
+      walked.order,
+      subst (λ (l : List Entry). IsOrderOf parts l walked.order) (sym closes.entries) (orders_closing parts (map session_start parts) sessions walked.order closes.gone closes.rows closes.pins walked.orders),
       record {
-        ordered = walked.new; world = done.new; plays = walked.plays; ends = done.runs;
+        ordered = walked.new;
+        world = done.new;
+        plays = walked.plays;
+        ends = done.runs;
         finishes = record {
-          gone = closes.gone; rows = closes.rows; pins = closes.pins;
+          gone = closes.gone;
+          rows = closes.rows;
+          pins = closes.pins;
           replies = subst (λ (t : TableSeen). AreReplies (object_of t) (closing_calls (length parts) closes.gone closes.rows closes.pins)) (sym (done.table ∙ walked.table)) run.1;
           history_is = closes.entries ∙ ap (λ (t : TableSeen). t.history ++ closing_calls (length parts) closes.gone closes.rows closes.pins) (sym (done.table ∙ walked.table));
           text_is = closes.text_is ∙ ap (λ (l : List ℕ). l ++ last_line closes.gone closes.rows closes.pins) (texts ∙ ap (λ (l : List SessionPoint). flat_map (λ (p : SessionPoint). p.before) l) (sym points));
         };
-      })
+      },
+    )

@@ -1,5 +1,5 @@
 -- Tables with more entries.
-use Rattle.std.proofs.Common.{◌≡◌, List, [], ◌∷◌, ◌++◌, refl, ap, sym, subst, append-nil, append_assoc}
+use Rattle.std.proofs.Common.{◌≡◌, List, [], ◌∷◌, ◌++◌, sym, subst, append-nil, append_assoc}
 use Rattle.mars_rows.specs.Object.{TableObject}
 use Rattle.mars_table.specs.declared.entry.Entry.{Entry}
 use Rattle.mars_table.specs.History.{AreReplies, after_all}

@@ -1,26 +1,21 @@
 -- From each session over its own door to the whole run.
-use Rattle.std.proofs.Common.{◌≡◌, ℕ, zero, suc, ◌+◌, ◌<◌, List, [], ◌∷◌, ◌++◌, length, map, refl, ap, sym, ◌∙◌, subst, arith, append-nil, inl, inr}
+use Rattle.std.proofs.Common.{◌≡◌, ℕ, zero, suc, List, [], ◌∷◌, ◌++◌, length, map, refl, ap, sym, ◌∙◌, subst, append-nil, inl, inr}
 use Rattle.std.specs.Prelude.{◌⊎◌, Option, Some, None, slice_get, Bool, true, false, if◌then◌else◌}
-use Rattle.std.specs.List.{flat_map}
 use Rattle.std.proofs.lemmas.List.{length-map}
 use Rattle.mars_script.specs.declared.script.Command.TheVariants as command
 use Rattle.mars_table.specs.declared.entry.Call.{Call}
 use Rattle.mars_table.specs.declared.entry.Reply.{Reply}
 use Rattle.mars_table.specs.declared.entry.Entry.{Entry}
-use Rattle.mars_table.specs.History.{Legal, of, call_entry}
-use Rattle.mars_session.specs.declared.events.Event.{Event}
+use Rattle.mars_table.specs.History.{of, call_entry}
 use Rattle.mars_session.specs.declared.events.Event.TheVariants.{Moved, Called, Done, Cut}
 use Rattle.mars_session.specs.Lines.{memory_line}
 use Rattle.mars_session.specs.SessionPoints.{SessionPart, SessionPoint}
-use Rattle.mars_session.specs.CommandActs.{AnswersCall, ActsAt, Uses, CommandAct}
+use Rattle.mars_session.specs.CommandActs.{ActsAt, Uses, CommandAct}
 use Rattle.mars_session.specs.SessionEvents.{WantsCall, HasNoCommand, ReachesPoint}
-use Rattle.mars_session.specs.WholeRuns.{ClosesWith, ForEach, IsWholeRun, IsCutRun, WritesAlone, WritesCut, WritesEither}
-use Rattle.mars_session.specs.WorldLaws.{AreNumbered}
-use Rattle.mars_session.specs.SessionSeen.{SessionSeen, session_text, restarted, cut_session, TakesReply, WantsNext, HasMore}
-use Rattle.mars_session.specs.DoorEvents.{CallsDoor, FollowsDoor, CutsShort}
-use Rattle.mars_session.specs.Together.{CutAtDoor, IsWithEntries, EventsKeepEntries, EndsIn, cut_of, TogetherTheyAreWhole, UncutIsWhole}
-use Rattle.mars_session.proofs.Closed.{EndedWith, alone_with}
-use Rattle.mars_session.proofs.Places.{get_some}
+use Rattle.mars_session.specs.WholeRuns.{ClosesWith, WritesAlone, WritesEither}
+use Rattle.mars_session.specs.SessionSeen.{SessionSeen, session_text, restarted, TakesReply}
+use Rattle.mars_session.specs.Together.{IsWithEntries, EventsKeepEntries, EndsIn, cut_of, TogetherTheyAreWhole, UncutIsWhole}
+use Rattle.mars_session.proofs.Closed.{alone_with}
 use Rattle.mars_session.proofs.Points.{ended_whole}
 
 -- Each event keeps the session at its door.
@@ -45,21 +40,24 @@ taken_mine old new call reply t = ap (λ (s : SessionSeen). s.point.mine) t.new_
 
 pub events_keep_entries : EventsKeepEntries
 events_keep_entries lone old mine seen Moved new mine_after seen_after at f = record {
-    going = λ e. f.1 ∙ at.going f.0.going ∙ sym f.0.none;
-    cut = λ e. absurd (cc (e, ap (λ (s : SessionSeen). s.cut) f.0.stays));
-  }
+  going = λ e. f.1 ∙ at.going f.0.going ∙ sym f.0.none;
+  cut = λ e. absurd (cc (e, ap (λ (s : SessionSeen). s.cut) f.0.stays));
+}
 events_keep_entries lone old mine seen Called new mine_after seen_after at (call, reply, takes, wants, calls) = record {
-    going = λ e. calls.more ∙ ap (λ (l : List Entry). l ++ call_entry old.part.who call reply ∷ []) (at.going wants.going) ∙ sym (taken_mine old new call reply takes);
-    cut = λ e. absurd (cc (e, ap (λ (s : SessionSeen). s.cut) takes.new_is));
-  }
+  going = λ e. calls.more ∙ ap (λ (l : List Entry). l ++ call_entry old.part.who call reply ∷ []) (at.going wants.going) ∙ sym (taken_mine old new call reply takes);
+  cut = λ e. absurd (cc (e, ap (λ (s : SessionSeen). s.cut) takes.new_is));
+}
 events_keep_entries lone old mine seen Done new mine_after seen_after at f = subst (λ (l : List Entry). IsWithEntries new l) (sym f.2) (subst (λ (s : SessionSeen). IsWithEntries s mine) (sym f.1) at)
 events_keep_entries lone old mine seen Cut new mine_after seen_after at f = subst (λ (s : SessionSeen). IsWithEntries s mine_after) (sym f.cut) (record {
-    going = λ e. absurd (cc e);
-    cut = λ e. record { left = f.went.left; calls = elim f.door [
-        inl same ↦ inl (same.0 ∙ at.going f.went.going)
+  going = λ e. absurd (cc e);
+  cut = λ e. record {
+    left = f.went.left;
+    calls = elim f.door [
+      | inl same ↦ inl (same.0 ∙ at.going f.went.going)
       | inr c ↦ inr (c.0, c.1, restart_wants old.part old.point c.0 c.2.wants, c.3, c.4.more ∙ ap (λ (l : List Entry). l ++ call_entry old.part.who c.0 c.1 ∷ []) (at.going f.went.going))
-      ] };
-  })
+    ];
+  };
+})
 
 told : (b : Bool) → (b ≡ true) ⊎ (b ≡ false)
 told true = inl refl
@@ -73,7 +71,11 @@ through_by history s true is reached at ended =
 through_by history s false is reached at ended =
     let nothing = ended_whole s.part s.point reached (ended is) in
     alone_with s.part (of history s.part.who) (s.point.before ++ s.point.present) (record {
-      point = s.point; reached = reached; ended = ended is; mine_is = sym (at.going is); text_is = ap (λ (l : List ℕ). s.point.before ++ l) nothing ∙ append-nil s.point.before;
+      point = s.point;
+      reached = reached;
+      ended = ended is;
+      mine_is = sym (at.going is);
+      text_is = ap (λ (l : List ℕ). s.point.before ++ l) nothing ∙ append-nil s.point.before;
     })
 
 through : (history : List Entry) (part : SessionPart) (s : SessionSeen) → EndsIn history part s → WritesEither history part (session_text s, cut_of s)
@@ -88,17 +90,17 @@ map_place f (x ∷ xs) (suc i) y e = map_place f xs i y e
 
 pub together_they_are_whole : TogetherTheyAreWhole
 together_they_are_whole parts sessions limit history text numbered legal each closes = record {
-    texts = map (λ (s : SessionSeen). (session_text s, cut_of s)) sessions;
-    cuts_are = seconds sessions;
-    legal = legal;
-    each = record {
-      count = length-map sessions (λ (s : SessionSeen). (session_text s, cut_of s)) ∙ each.count;
-      each = λ i part x at_part at_x.
+  texts = map (λ (s : SessionSeen). (session_text s, cut_of s)) sessions;
+  cuts_are = seconds sessions;
+  legal = legal;
+  each = record {
+    count = length-map sessions (λ (s : SessionSeen). (session_text s, cut_of s)) ∙ each.count;
+    each = λ i part x at_part at_x.
         let s = map_place (λ (s : SessionSeen). (session_text s, cut_of s)) sessions i x at_x in
         subst (λ (y : List ℕ × Option ℕ). WritesEither history part y) (sym s.2) (through history part s.0 (each.each i part s.0 at_part s.1));
-    };
-    closes = subst (λ (l : List (List ℕ)). ClosesWith (length parts) history l text) (sym (firsts sessions)) closes;
-  }
+  };
+  closes = subst (λ (l : List (List ℕ)). ClosesWith (length parts) history l text) (sym (firsts sessions)) closes;
+}
   where
     firsts : (sessions : List SessionSeen) → map (λ (t : List ℕ × Option ℕ). t.0) (map (λ (s : SessionSeen). (session_text s, cut_of s)) sessions) ≡ map session_text sessions
     firsts [] = refl
@@ -110,16 +112,16 @@ together_they_are_whole parts sessions limit history text numbered legal each cl
 
 pub uncut_is_whole : UncutIsWhole
 uncut_is_whole parts limit history text cuts uncut w = record {
-    texts = map (λ (t : List ℕ × Option ℕ). t.0) w.texts;
-    legal = w.legal;
-    closes = w.closes;
-    each = record {
-      count = length-map w.texts (λ (t : List ℕ × Option ℕ). t.0) ∙ w.each.count;
-      each = λ i part text' at_part at_text.
+  texts = map (λ (t : List ℕ × Option ℕ). t.0) w.texts;
+  legal = w.legal;
+  closes = w.closes;
+  each = record {
+    count = length-map w.texts (λ (t : List ℕ × Option ℕ). t.0) ∙ w.each.count;
+    each = λ i part text' at_part at_text.
         let t = map_place (λ (t : List ℕ × Option ℕ). t.0) w.texts i text' at_text in
         subst (λ (x : List ℕ). WritesAlone history part x) (sym t.2) (alone_of history part t.0 (λ j e. uncut i j (subst (λ (l : List (Option ℕ)). slice_get l i ≡ Some (Some j)) w.cuts_are (at_map w.texts i t.0 t.1 ∙ ap (λ (o : Option ℕ). Some o) e))) (w.each.each i part t.0 at_part t.1));
-    };
-  }
+  };
+}
   where
     at_map : (texts : List (List ℕ × Option ℕ)) (i : ℕ) (t : List ℕ × Option ℕ) → slice_get texts i ≡ Some t → slice_get (map (λ (t : List ℕ × Option ℕ). t.1) texts) i ≡ Some (t.1)
     at_map [] i t e = absurd (cc e)

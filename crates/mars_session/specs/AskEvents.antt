@@ -1,7 +1,6 @@
 -- The events of an ask, one for each step, and its whole text.
 use Rattle.std.specs.Prelude.{◌≡◌, ◌⊎◌, ℕ, suc, ◌+◌, List, [], ◌∷◌, ◌++◌, Bool, true, false, Option, None}
 use Rattle.mars_tree.specs.Graph.{Node}
-use Rattle.mars_tree.specs.declared.label.NameId.{NameId}
 use Rattle.mars_canon.specs.Canon.{Rooted}
 use Rattle.mars_term.specs.declared.clause.Ask.{Ask}
 use Rattle.mars_rules.specs.RuleLists.{RuleList}

@@ -6,23 +6,34 @@ use Rattle.mars_script.specs.declared.script.Command.{Command}
 use Rattle.mars_table.specs.declared.entry.Call.{Call}
 use Rattle.mars_table.specs.declared.entry.Reply.{Reply}
 use Rattle.mars_table.specs.History.{call_entry}
-use Rattle.mars_session.specs.SessionPoints.{SessionPart, SessionPoint, LatestAsk, session_start}
+use Rattle.mars_session.specs.SessionPoints.{SessionPart, SessionPoint, session_start}
 use Rattle.mars_session.specs.CommandActs.{TableUse, CommandAct, Writes, Uses, Asks, ActsAt, AnswersCall, call_of, use_line, names_after}
 use Rattle.mars_session.specs.AskEvents.{AskEvent, IsAskEvent}
 
 -- the present command is done, with a line
 abbrev pub command_done : SessionPoint → List ℕ → SessionPoint
 command_done p line = record {
-  done = suc p.done; steps = 0; answer = None; names = p.names; latest = p.latest; mine = p.mine;
-  before = p.before ++ (p.present ++ line); present = [];
+  done = suc p.done;
+  steps = 0;
+  answer = None;
+  names = p.names;
+  latest = p.latest;
+  mine = p.mine;
+  before = p.before ++ (p.present ++ line);
+  present = [];
 }
 
 -- its call was answered
 abbrev pub answered : SessionPart → TableUse → Reply → SessionPoint → SessionPoint
 answered part wish reply p = record {
-  done = suc p.done; steps = 0; answer = None; names = names_after p.names wish reply; latest = p.latest;
+  done = suc p.done;
+  steps = 0;
+  answer = None;
+  names = names_after p.names wish reply;
+  latest = p.latest;
   mine = p.mine ++ call_entry part.who (call_of wish) reply ∷ [];
-  before = p.before ++ (p.present ++ use_line part.names wish reply); present = [];
+  before = p.before ++ (p.present ++ use_line part.names wish reply);
+  present = [];
 }
 
 -- the later of two answers
@@ -33,13 +44,24 @@ later_answer earlier None = earlier
 -- an event of the present ask: after its last one it is the latest ask that ran
 abbrev pub stepped_by : Bool → List NameId → AskEvent → SessionPoint → SessionPoint
 stepped_by true vars event p = record {
-  done = suc p.done; steps = 0; answer = None; names = p.names;
-  latest = Some (record { vars = vars; answer = later_answer p.answer event.answer }); mine = p.mine;
-  before = p.before ++ (p.present ++ event.text); present = [];
+  done = suc p.done;
+  steps = 0;
+  answer = None;
+  names = p.names;
+  latest = Some (record { vars = vars; answer = later_answer p.answer event.answer });
+  mine = p.mine;
+  before = p.before ++ (p.present ++ event.text);
+  present = [];
 }
 stepped_by false vars event p = record {
-  done = p.done; steps = suc p.steps; answer = later_answer p.answer event.answer; names = p.names; latest = p.latest; mine = p.mine;
-  before = p.before; present = p.present ++ event.text;
+  done = p.done;
+  steps = suc p.steps;
+  answer = later_answer p.answer event.answer;
+  names = p.names;
+  latest = p.latest;
+  mine = p.mine;
+  before = p.before;
+  present = p.present ++ event.text;
 }
 
 -- what is done leads from `p` to `q`; a call has some reply that answers it

@@ -69,8 +69,14 @@ pub record SessionPoint : Type 0 where
 -- where a session starts: with the line of its name
 abbrev pub session_start : SessionPart → SessionPoint
 session_start part = record {
-  done = 0; steps = 0; answer = None; names = []; latest = None; mine = [];
-  before = heading_line part.names part.name; present = [];
+  done = 0;
+  steps = 0;
+  answer = None;
+  names = [];
+  latest = None;
+  mine = [];
+  before = heading_line part.names part.name;
+  present = [];
 }
 
 -- what a session has under a name

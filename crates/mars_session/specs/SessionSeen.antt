@@ -1,11 +1,11 @@
 -- A session as callers see it: what it was given, the point that it has come to, and whether it was cut.
-use Rattle.std.specs.Prelude.{◌≡◌, ◌⊎◌, ℕ, ◌<◌, List, [], ◌∷◌, ◌++◌, length, Bool, true, false, if◌then◌else◌, Option, Some, None}
+use Rattle.std.specs.Prelude.{◌≡◌, ◌⊎◌, ℕ, ◌<◌, List, [], ◌++◌, length, Bool, true, false, if◌then◌else◌, None}
 use Rattle.mars_table.specs.declared.entry.Call.{Call}
 use Rattle.mars_table.specs.declared.entry.Reply.{Reply}
 use Rattle.mars_table.specs.History.{OwnsFor}
 use Rattle.mars_session.specs.Lines.{memory_line}
 use Rattle.mars_session.specs.SessionPoints.{SessionPart, SessionPoint, session_start}
-use Rattle.mars_session.specs.CommandActs.{AnswersCall, call_of}
+use Rattle.mars_session.specs.CommandActs.{AnswersCall}
 use Rattle.mars_session.specs.SessionEvents.{IsEvent, HasNoCommand, WantsCall, answered}
 
 pub record SessionSeen : Type 0 where
@@ -24,7 +24,14 @@ at_point s p = record { part = s.part; point = p; cut = false }
 -- the beginning of the present command
 abbrev pub restarted : SessionPoint → SessionPoint
 restarted p = record {
-  done = p.done; steps = 0; answer = None; names = p.names; latest = p.latest; mine = p.mine; before = p.before; present = [];
+  done = p.done;
+  steps = 0;
+  answer = None;
+  names = p.names;
+  latest = p.latest;
+  mine = p.mine;
+  before = p.before;
+  present = [];
 }
 
 -- the session cut at its present command

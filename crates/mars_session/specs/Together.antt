@@ -5,7 +5,7 @@ use Rattle.mars_table.specs.declared.entry.Reply.{Reply}
 use Rattle.mars_table.specs.declared.entry.Entry.{Entry}
 use Rattle.mars_table.specs.History.{Legal, of, call_entry}
 use Rattle.mars_session.specs.declared.events.Event.{Event}
-use Rattle.mars_session.specs.SessionPoints.{SessionPart, SessionPoint}
+use Rattle.mars_session.specs.SessionPoints.{SessionPart}
 use Rattle.mars_session.specs.CommandActs.{AnswersCall}
 use Rattle.mars_session.specs.SessionEvents.{WantsCall, HasNoCommand, ReachesPoint}
 use Rattle.mars_session.specs.WholeRuns.{ClosesWith, ForEach, IsWholeRun, IsCutRun}

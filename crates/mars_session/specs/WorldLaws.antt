@@ -1,5 +1,5 @@
 -- Laws: whole runs and schedules are the same, and each is determined.
-use Rattle.std.specs.Prelude.{◌≡◌, ℕ, List, [], ◌∷◌, ◌++◌, map, Some, slice_get}
+use Rattle.std.specs.Prelude.{◌≡◌, ℕ, List, ◌∷◌, ◌++◌, map, Some, slice_get}
 use Rattle.mars_script.specs.declared.script.Input.{Input}
 use Rattle.mars_script.specs.declared.words.Options.{Options}
 use Rattle.mars_table.specs.declared.entry.Entry.{Entry}

@@ -96,7 +96,7 @@ IsOrderFrom parts points [] order = order ≡ []
 IsOrderFrom parts points (e ∷ history) order =
     ((slice_get parts e.who ≡ None) × IsOrderFrom parts points history order)
     ⊎ ((n : ℕ) × (part : SessionPart) × (p : SessionPoint) × (q : SessionPoint) × (rest : List ℕ) × (slice_get parts e.who ≡ Some part) × (slice_get points e.who ≡ Some p)
-        × MakesEntry part n p e q × (order ≡ replicate (suc n) e.who ++ rest) × IsOrderFrom parts (slice_set points e.who q) history rest)
+    × MakesEntry part n p e q × (order ≡ replicate (suc n) e.who ++ rest) × IsOrderFrom parts (slice_set points e.who q) history rest)
 
 -- the order of the events that a history has
 abbrev pub IsOrderOf : List SessionPart → List Entry → List ℕ → Type 0

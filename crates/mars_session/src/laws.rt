@@ -1,5 +1,5 @@
 //! Laws of sessions, whole runs and schedules.
-ghost use Rattle.mars_session.specs.SessionLaws.{EventIsOne, AloneIsOne, AloneGrows, CallsAreAllowed};
+ghost use Rattle.mars_session.specs.SessionLaws.{EventIsOne, AloneIsOne, AloneGrows, CallsAreAllowed, TextsGrow, AskWritesItsText};
 ghost use Rattle.mars_session.specs.Together.{EventsKeepEntries, TogetherTheyAreWhole, UncutIsWhole};
 ghost use Rattle.mars_session.specs.WorldLaws.{PartsAreNumbered, HistoryIsASchedule, ScheduleIsWhole, OrderIsOne, ScheduleIsOne, WholeGoesOn};
 
@@ -21,6 +21,16 @@ pub fn alone_grows()
 /// What a session asks of the table it may ask.
 pub fn calls_are_allowed()
     ensures { CallsAreAllowed }
+{}
+
+/// The text of a session with what the present ask wrote so far only grows.
+pub fn texts_grow()
+    ensures { TextsGrow }
+{}
+
+/// The events of an ask write the ask's text.
+pub fn ask_writes_its_text()
+    ensures { AskWritesItsText }
 {}
 
 /// The sessions of an input are numbered in order.

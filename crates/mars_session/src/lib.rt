@@ -7,8 +7,8 @@ mod named;
 
 pub use events::{Event, Turned};
 pub use laws::{
-    alone_grows, alone_is_one, calls_are_allowed, event_is_one, events_keep_entries,
-    history_is_a_schedule, order_is_one, schedule_is_one, schedule_is_whole, sessions_are_numbered,
-    together_they_are_whole, uncut_is_whole, whole_goes_on,
+    alone_grows, alone_is_one, ask_writes_its_text, calls_are_allowed, event_is_one,
+    events_keep_entries, history_is_a_schedule, order_is_one, schedule_is_one, schedule_is_whole,
+    sessions_are_numbered, texts_grow, together_they_are_whole, uncut_is_whole, whole_goes_on,
 };
 pub use named::{Named, TreeForm};
