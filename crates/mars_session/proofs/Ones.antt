@@ -17,7 +17,7 @@ use Rattle.mars_session.specs.SessionEvents.{IsEvent, HasNoCommand, AreEvents}
 use Rattle.mars_session.specs.SessionAlone.{BeginsWith, replies_of}
 use Rattle.mars_session.specs.WholeRuns.{closing_calls}
 use Rattle.mars_session.specs.Worlds.{World, new_world, with_entries, MovesSession, Happens, Plays, HasEnded, RunsToEnds, Finishes, MakesEntry, IsOrderFrom}
-use Rattle.mars_session.specs.WorldLaws.{AreNumbered, OrderIsOne, ScheduleIsOne}
+use Rattle.mars_session.specs.WorldLaws.{NumberedInOrder, OrderIsOne, ScheduleIsOne}
 use Rattle.mars_session.proofs.Worlds.{Sound, happens_sound, plays_sound, begins_sound, sound_table}
 use Rattle.mars_table.proofs.CallLemmas.{replies_are_determined}
 use Rattle.mars_session.proofs.Lists.{begins_same}
@@ -105,7 +105,7 @@ moves_same part p q r t made others sound nq nr mq mr ra rb = by_growth (grows p
     by_growth (one call reply fits x) (none y) = absurd (both_ways part p q r (call_entry part.who call reply) nq nr x y)
     by_growth (one call reply fits x) (one other again fits' y) = calls_both call other reply again x y (wants_one part p call other (wants_of part p q call reply nq x) (wants_of part p r other again nr y))
 
-module _ (parts : List SessionPart) (rows : ℕ) (numbered : AreNumbered parts) where
+module _ (parts : List SessionPart) (rows : ℕ) (numbered : NumberedInOrder parts) where
   happens_one : (i : ℕ) (w a b : World) → Sound parts rows w → Happens parts i w a → Happens parts i w b → a ≡ b
   happens_one i w a b sound x y = by_event x.event y.event
     where

@@ -12,7 +12,7 @@ use Rattle.mars_session.specs.SessionPoints.{SessionPart, SessionPoint, session_
 use Rattle.mars_session.specs.SessionEvents.{HasNoCommand, ReachesPoint}
 use Rattle.mars_session.specs.WholeRuns.{closing_calls, IsWholeRun}
 use Rattle.mars_session.specs.Worlds.{new_world}
-use Rattle.mars_session.specs.WorldLaws.{AreNumbered, WholeGoesOn}
+use Rattle.mars_session.specs.WorldLaws.{NumberedInOrder, WholeGoesOn}
 use Rattle.mars_session.proofs.Tables.{replies_apart}
 use Rattle.mars_session.proofs.Places.{get_some, choose}
 use Rattle.mars_session.proofs.Points.{wants_of}
@@ -26,7 +26,7 @@ pub record Starts (parts : List SessionPart) (limit : ℕ) (sessions : List Entr
   pub go : (i : ℕ) (part : SessionPart) (p end : SessionPoint) → slice_get parts i ≡ Some part → slice_get (map session_start parts) i ≡ Some p → slice_get ends i ≡ Some end → GoesTo sessions part p end
   pub replies : Legal limit sessions
 
-pub starts : (parts : List SessionPart) (limit : ℕ) (history : List Entry) (text : List ℕ) → AreNumbered parts → (whole : IsWholeRun parts limit history text) → Starts parts limit whole.closes.sessions
+pub starts : (parts : List SessionPart) (limit : ℕ) (history : List Entry) (text : List ℕ) → NumberedInOrder parts → (whole : IsWholeRun parts limit history text) → Starts parts limit whole.closes.sessions
 starts parts limit history text numbered whole =
     let closes = whole.closes in
     let run = replies_apart (object_of (uncalled limit)) closes.sessions (closing_calls (length parts) closes.gone closes.rows closes.pins) (subst (λ (l : List Entry). Legal limit l) closes.entries whole.legal) in

@@ -18,7 +18,7 @@ use Rattle.mars_session.specs.SessionEvents.{IsEvent, HasNoCommand, AreEvents, R
 use Rattle.mars_session.specs.SessionAlone.{BeginsWith}
 use Rattle.mars_session.specs.WholeRuns.{closing_calls}
 use Rattle.mars_session.specs.Worlds.{World, new_world, with_entries, Happens, Plays, HasEnded, RunsToEnds, MakesEntry, IsOrderFrom, IsOrderOf}
-use Rattle.mars_session.specs.WorldLaws.{AreNumbered, HistoryIsASchedule}
+use Rattle.mars_session.specs.WorldLaws.{NumberedInOrder, HistoryIsASchedule}
 use Rattle.mars_session.proofs.Tables.{replies_apart, with_none, with_more, object_with}
 use Rattle.mars_session.proofs.Lists.{get_set_same, get_set_other, set_same, set_twice, length_set, replicate_snoc}
 use Rattle.mars_session.proofs.Places.{cancel, get_some, same_places, choose, same_joined}
@@ -153,7 +153,7 @@ pub other_first : (e : Entry) (history : List Entry) (who : ℕ) → e.who ≢ w
 other_first e history who other = elim (eqb_tells e.who who) [ inl t ↦ absurd (other t.1) | inr t ↦ rw t.0 refl ]
 
 -- where one session has come to q, all still go to their ends
-go_on : (parts : List SessionPart) (numbered : AreNumbered parts) (e : Entry) (history : List Entry) (points ends : List SessionPoint) (p q end : SessionPoint) (part : SessionPart)
+go_on : (parts : List SessionPart) (numbered : NumberedInOrder parts) (e : Entry) (history : List Entry) (points ends : List SessionPoint) (p q end : SessionPoint) (part : SessionPart)
     → slice_get parts e.who ≡ Some part → slice_get points e.who ≡ Some p → slice_get ends e.who ≡ Some end → GoesTo history part q end → AllGo (e ∷ history) parts points ends → AllGo history parts (slice_set points e.who q) ends
 go_on parts numbered e history points ends p q end part is_part is_point is_end goes all j part' p' end' at_part at_point at_end =
     elim (eqb_tells j e.who) [
@@ -180,7 +180,7 @@ pub record Walked (parts : List SessionPart) (history after : List Entry) (ends 
   pub count : length new.points ≡ length parts
   pub go : (i : ℕ) (part : SessionPart) (p end : SessionPoint) → slice_get parts i ≡ Some part → slice_get new.points i ≡ Some p → slice_get ends i ≡ Some end → GoesTo after part p end
 
-pub walk : (parts : List SessionPart) (numbered : AreNumbered parts) (history after : List Entry) (ends : List SessionPoint) (old : World)
+pub walk : (parts : List SessionPart) (numbered : NumberedInOrder parts) (history after : List Entry) (ends : List SessionPoint) (old : World)
     → length old.points ≡ length parts → length ends ≡ length parts → All (λ (e : Entry). e.who < length parts) history → AllGo (history ++ after) parts old.points ends → AreReplies (object_of old.table) history → Walked parts history after ends old
 walk parts numbered [] after ends old count counts own go run = record {
   order = [];

@@ -16,7 +16,7 @@ use Rattle.mars_session.specs.SessionPoints.{SessionPart, SessionPoint, session_
 use Rattle.mars_session.specs.SessionEvents.{IsEvent, HasNoCommand, ReachesPoint}
 use Rattle.mars_session.specs.WholeRuns.{closing_calls, IsWholeRun}
 use Rattle.mars_session.specs.Worlds.{World, new_world, MovesSession, Happens, Plays, HasEnded, RunsToEnds, Finishes}
-use Rattle.mars_session.specs.WorldLaws.{AreNumbered, ScheduleIsWhole}
+use Rattle.mars_session.specs.WorldLaws.{NumberedInOrder, ScheduleIsWhole}
 use Rattle.mars_session.proofs.Tables.{replies_on}
 use Rattle.mars_session.proofs.Lists.{get_set_same, get_set_other, length_set}
 use Rattle.mars_session.proofs.Places.{cancel}
@@ -62,7 +62,7 @@ pub record Sound (parts : List SessionPart) (limit : ℕ) (w : World) : Type 0 w
   pub count : length w.points ≡ length parts
   pub each : (i : ℕ) (part : SessionPart) (p : SessionPoint) → slice_get parts i ≡ Some part → slice_get w.points i ≡ Some p → Got part w.table.history p
 
-moves_sound : (parts : List SessionPart) (limit i : ℕ) (part : SessionPart) (p : SessionPoint) (old new : World) → AreNumbered parts → slice_get parts i ≡ Some part → slice_get old.points i ≡ Some p → Sound parts limit old → MovesSession part i p old new → Sound parts limit new
+moves_sound : (parts : List SessionPart) (limit i : ℕ) (part : SessionPart) (p : SessionPoint) (old new : World) → NumberedInOrder parts → slice_get parts i ≡ Some part → slice_get old.points i ≡ Some p → Sound parts limit old → MovesSession part i p old new → Sound parts limit new
 moves_sound parts limit i part p old new numbered is_part is_point s m =
     let own_made = made_own part p m.to m.made m.event m.makes in
     let history : new.table.history ≡ old.table.history ++ m.made = ap (λ (t : TableSeen). t.history) m.table.table in
@@ -98,13 +98,13 @@ moves_sound parts limit i part p old new numbered is_part is_point s m =
           ];
     }
 
-pub happens_sound : (parts : List SessionPart) (limit i : ℕ) (old new : World) → AreNumbered parts → Sound parts limit old → Happens parts i old new → Sound parts limit new
+pub happens_sound : (parts : List SessionPart) (limit i : ℕ) (old new : World) → NumberedInOrder parts → Sound parts limit old → Happens parts i old new → Sound parts limit new
 happens_sound parts limit i old new numbered s h = elim h.event [
   | inl same ↦ subst (λ (w : World). Sound parts limit w) (sym same.1) s
   | inr m ↦ moves_sound parts limit i h.part h.point old new numbered h.is_part h.is_point s m
 ]
 
-pub plays_sound : (parts : List SessionPart) (limit : ℕ) (order : List ℕ) (old new : World) → AreNumbered parts → Sound parts limit old → Plays parts old order new → Sound parts limit new
+pub plays_sound : (parts : List SessionPart) (limit : ℕ) (order : List ℕ) (old new : World) → NumberedInOrder parts → Sound parts limit old → Plays parts old order new → Sound parts limit new
 plays_sound parts limit [] old new numbered s a = subst (λ (w : World). Sound parts limit w) (sym a) s
 plays_sound parts limit (i ∷ order) old new numbered s a = plays_sound parts limit order a.0 new numbered (happens_sound parts limit i old a.0 numbered s a.1) a.2
 
@@ -138,12 +138,12 @@ runs_ended parts i (suc n) old new r before j lt = runs_ended parts (suc i) n r.
     (λ k below. elim (eqb_tells k i) [ inl t ↦ subst (λ (x : ℕ). HasEnded parts x r.1) (sym t.1) r.3 | inr t ↦ plays_ended parts i k r.0 old r.1 r.2 t.1 (before k (omega (arith, below, t.1))) ])
     j (omega (arith, lt))
 
-pub runs_sound : (parts : List SessionPart) (limit i n : ℕ) (old new : World) → AreNumbered parts → Sound parts limit old → RunsToEnds parts i n old new → Sound parts limit new
+pub runs_sound : (parts : List SessionPart) (limit i n : ℕ) (old new : World) → NumberedInOrder parts → Sound parts limit old → RunsToEnds parts i n old new → Sound parts limit new
 runs_sound parts limit i zero old new numbered s r = subst (λ (w : World). Sound parts limit w) (sym r) s
 runs_sound parts limit i (suc n) old new numbered s r = runs_sound parts limit (suc i) n r.1 new numbered (plays_sound parts limit (replicate r.0 i) old r.1 numbered s r.2) r.4
 
 -- A world whose sessions have all ended, with the closing calls, is whole.
-pub finishes_whole : (parts : List SessionPart) (limit : ℕ) (w : World) (history : List Entry) (text : List ℕ) → AreNumbered parts → Sound parts limit w → ((j : ℕ) → j < length parts → HasEnded parts j w) → Finishes parts w history text → IsWholeRun parts limit history text
+pub finishes_whole : (parts : List SessionPart) (limit : ℕ) (w : World) (history : List Entry) (text : List ℕ) → NumberedInOrder parts → Sound parts limit w → ((j : ℕ) → j < length parts → HasEnded parts j w) → Finishes parts w history text → IsWholeRun parts limit history text
 finishes_whole parts limit w history text numbered s ended f =
     let last = closing_calls (length parts) f.gone f.rows f.pins in
     record {

@@ -9,7 +9,7 @@ use Rattle.mars_session.specs.SessionPoints.{SessionPart}
 use Rattle.mars_session.specs.CommandActs.{AnswersCall}
 use Rattle.mars_session.specs.SessionEvents.{WantsCall, HasNoCommand, ReachesPoint}
 use Rattle.mars_session.specs.WholeRuns.{ClosesWith, ForEach, IsWholeRun, IsCutRun}
-use Rattle.mars_session.specs.WorldLaws.{AreNumbered}
+use Rattle.mars_session.specs.WorldLaws.{NumberedInOrder}
 use Rattle.mars_session.specs.SessionSeen.{SessionSeen, session_text}
 use Rattle.mars_session.specs.DoorEvents.{FollowsDoor}
 
@@ -40,7 +40,7 @@ cut_of s = if s.cut then Some s.point.done else None
 
 -- what sessions did, each over a door of its own, is a whole run, with those cut that were cut
 abbrev pub TogetherTheyAreWhole : Type 0
-TogetherTheyAreWhole = (parts : List SessionPart) (sessions : List SessionSeen) (rows : ℕ) (history : List Entry) (text : List ℕ) → AreNumbered parts → Legal rows history →
+TogetherTheyAreWhole = (parts : List SessionPart) (sessions : List SessionSeen) (rows : ℕ) (history : List Entry) (text : List ℕ) → NumberedInOrder parts → Legal rows history →
     ForEach (EndsIn history) parts sessions → ClosesWith (length parts) history (map session_text sessions) text → IsCutRun parts rows history text (map cut_of sessions)
 
 -- where no session was cut, such a run is whole

@@ -11,21 +11,21 @@ use Rattle.mars_session.specs.WholeRuns.{IsWholeRun}
 use Rattle.mars_session.specs.Worlds.{World, new_world, Plays, IsScheduled, IsOrderFrom, IsOrderOf}
 
 -- sessions are numbered in order
-abbrev pub AreNumbered : List SessionPart → Type 0
-AreNumbered parts = (i : ℕ) (part : SessionPart) → slice_get parts i ≡ Some part → part.who ≡ i
+abbrev pub NumberedInOrder : List SessionPart → Type 0
+NumberedInOrder parts = (i : ℕ) (part : SessionPart) → slice_get parts i ≡ Some part → part.who ≡ i
 
 -- so are those of an input
 abbrev pub PartsAreNumbered : Type 0
-PartsAreNumbered = (input : Input) (options : Options) → AreNumbered (session_parts input options)
+PartsAreNumbered = (input : Input) (options : Options) → NumberedInOrder (session_parts input options)
 
 -- a whole run is the run of a schedule, which its history tells
 abbrev pub HistoryIsASchedule : Type 0
-HistoryIsASchedule = (parts : List SessionPart) (rows : ℕ) (history : List Entry) (text : List ℕ) → AreNumbered parts → IsWholeRun parts rows history text →
+HistoryIsASchedule = (parts : List SessionPart) (rows : ℕ) (history : List Entry) (text : List ℕ) → NumberedInOrder parts → IsWholeRun parts rows history text →
     (order : List ℕ) × IsOrderOf parts history order × IsScheduled parts rows order history text
 
 -- the run of a schedule is whole
 abbrev pub ScheduleIsWhole : Type 0
-ScheduleIsWhole = (parts : List SessionPart) (rows : ℕ) (order : List ℕ) (history : List Entry) (text : List ℕ) → AreNumbered parts → IsScheduled parts rows order history text → IsWholeRun parts rows history text
+ScheduleIsWhole = (parts : List SessionPart) (rows : ℕ) (order : List ℕ) (history : List Entry) (text : List ℕ) → NumberedInOrder parts → IsScheduled parts rows order history text → IsWholeRun parts rows history text
 
 -- one order belongs to a history
 abbrev pub OrderIsOne : Type 0
@@ -33,7 +33,7 @@ OrderIsOne = (parts : List SessionPart) (history : List Entry) (order other : Li
 
 -- one history and one text come of a schedule
 abbrev pub ScheduleIsOne : Type 0
-ScheduleIsOne = (parts : List SessionPart) (rows : ℕ) (order : List ℕ) (history other : List Entry) (text again : List ℕ) → AreNumbered parts → IsScheduled parts rows order history text → IsScheduled parts rows order other again → (history ≡ other) × (text ≡ again)
+ScheduleIsOne = (parts : List SessionPart) (rows : ℕ) (order : List ℕ) (history other : List Entry) (text again : List ℕ) → NumberedInOrder parts → IsScheduled parts rows order history text → IsScheduled parts rows order other again → (history ≡ other) × (text ≡ again)
 
 -- from where it is, the session of an entry comes without another entry to where it wants the entry's call, which may be made
 -- there, and the entry's reply is the table's
@@ -52,5 +52,5 @@ pub record ComesToEntry (parts : List SessionPart) (w : World) (e : Entry) : Typ
 
 -- so it is at each entry of a whole run, after those before it: what a replay checks
 abbrev pub WholeGoesOn : Type 0
-WholeGoesOn = (parts : List SessionPart) (rows : ℕ) (history : List Entry) (text : List ℕ) (xs ys : List Entry) (e : Entry) → AreNumbered parts → (whole : IsWholeRun parts rows history text) → whole.closes.sessions ≡ xs ++ e ∷ ys →
+WholeGoesOn = (parts : List SessionPart) (rows : ℕ) (history : List Entry) (text : List ℕ) (xs ys : List Entry) (e : Entry) → NumberedInOrder parts → (whole : IsWholeRun parts rows history text) → whole.closes.sessions ≡ xs ++ e ∷ ys →
     (order : List ℕ) × (w : World) × IsOrderFrom parts (map session_start parts) xs order × Plays parts (new_world parts rows) order w × (w.table.history ≡ xs) × ComesToEntry parts w e
