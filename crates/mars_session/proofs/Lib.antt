@@ -1,4 +1,4 @@
-pub mod Acts
+pub mod ActLemmas
 pub mod AskOnes
 pub mod Lists
 pub mod Places
@@ -13,3 +13,6 @@ pub mod Replaying
 pub mod TogetherLemmas
 pub mod Numbering
 pub mod AskTexts
+pub mod OneForm
+pub mod Trees
+pub mod Results

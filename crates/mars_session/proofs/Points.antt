@@ -14,7 +14,7 @@ use Rattle.mars_session.specs.AskEvents.{AskEvent}
 use Rattle.mars_session.specs.SessionEvents.{answered, stepped_by, DoesAct, IsEvent, HasNoCommand, WantsCall, AreEvents, ReachesPoint}
 use Rattle.mars_session.specs.SessionAlone.{BeginsWith, replies_of, calls_of, ComesTo, at_end, at_call}
 use Rattle.mars_session.specs.SessionLaws.{AloneIsOne, AloneGrows}
-use Rattle.mars_session.proofs.Acts.{acts_one}
+use Rattle.mars_session.proofs.ActLemmas.{acts_one}
 use Rattle.mars_session.proofs.AskOnes.{event_once}
 use Rattle.mars_session.proofs.Lists.{begins_same, begins_more, begins_on, next_same}
 

@@ -14,3 +14,9 @@ pub mod WorldLaws
 pub mod SessionSeen
 pub mod DoorEvents
 pub mod Together
+-- Inside: the code's own steps, promised to nobody.
+pub mod LinesInside
+pub mod WishesInside
+pub mod ActsInside
+pub mod TextSeen
+pub mod TextInside

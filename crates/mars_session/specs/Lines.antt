@@ -91,8 +91,11 @@ told_answer (SaidText string) = None
 told_answer (Answered a) = Some a.canon
 told_answer Ended = None
 
--- the last line of an ask, after so many steps
+-- the last line of an ask, after so many steps: what it begins with, and the number
+abbrev pub ending_codes : Ending → List ℕ
+ending_codes End = codes "end "
+ending_codes Enough = codes "enough "
+ending_codes Stopped = codes "stopped "
+
 abbrev pub ending_line : Ending → ℕ → List ℕ
-ending_line End steps = codes "end " ++ decimal steps ++ codes "\n"
-ending_line Enough steps = codes "enough " ++ decimal steps ++ codes "\n"
-ending_line Stopped steps = codes "stopped " ++ decimal steps ++ codes "\n"
+ending_line ending steps = ending_codes ending ++ decimal steps ++ codes "\n"

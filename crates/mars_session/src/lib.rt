@@ -1,9 +1,15 @@
 //! Sessions: what one writes and asks of the table, whole runs of several, and the world that they share.
 #![tactic(auto)]
 
+mod acts;
 mod events;
+mod forms;
 mod laws;
+mod lines;
+mod maps;
 mod named;
+mod text;
+mod wishes;
 
 pub use events::{Event, Turned};
 pub use laws::{
