@@ -16,3 +16,4 @@ pub mod AskTexts
 pub mod OneForm
 pub mod Trees
 pub mod Results
+pub mod AskSteps

@@ -18,5 +18,6 @@ pub mod Together
 pub mod LinesInside
 pub mod WishesInside
 pub mod ActsInside
+pub mod AskingInside
 pub mod TextSeen
 pub mod TextInside

@@ -2,6 +2,7 @@
 #![tactic(auto)]
 
 mod acts;
+mod asking;
 mod events;
 mod forms;
 mod laws;

@@ -1,0 +1,6 @@
+//! A machine that is always out of memory.
+#![tactic(auto)]
+
+mod machine;
+
+pub use machine::Machine;
