@@ -17,3 +17,4 @@ pub mod OneForm
 pub mod Trees
 pub mod Results
 pub mod AskSteps
+pub mod Turning

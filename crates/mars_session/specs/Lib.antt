@@ -19,5 +19,7 @@ pub mod LinesInside
 pub mod WishesInside
 pub mod ActsInside
 pub mod AskingInside
+pub mod NextInside
+pub mod SessionInside
 pub mod TextSeen
 pub mod TextInside

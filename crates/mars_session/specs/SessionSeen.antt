@@ -3,6 +3,8 @@ use Rattle.std.specs.Prelude.{◌≡◌, ◌⊎◌, ℕ, ◌<◌, List, [], ◌+
 use Rattle.mars_table.specs.declared.entry.Call.{Call}
 use Rattle.mars_table.specs.declared.entry.Reply.{Reply}
 use Rattle.mars_table.specs.History.{OwnsFor}
+use Rattle.mars_session.specs.declared.events.Turned.{Turned}
+use Rattle.mars_session.specs.declared.events.Turned.TheVariants.{Moved, Wants, Done}
 use Rattle.mars_session.specs.Lines.{memory_line}
 use Rattle.mars_session.specs.SessionPoints.{SessionPart, SessionPoint, session_start}
 use Rattle.mars_session.specs.CommandActs.{AnswersCall}
@@ -69,3 +71,9 @@ pub record TakesReply (old : SessionSeen) (call : Call) (reply : Reply) (new : S
   pub wants : WantsCall old.part old.point call
   pub fits : AnswersCall call reply
   pub new_is : new ≡ at_point old (answered old.part wants.wish reply old.point)
+
+-- what a turn answers, and what it does
+abbrev pub TurnsTo : SessionSeen → Turned → SessionSeen → Type 0
+TurnsTo old Moved new = MovesOn old new
+TurnsTo old (Wants call) new = WantsNext old call × (new ≡ old)
+TurnsTo old Done new = IsThrough old × (new ≡ old)

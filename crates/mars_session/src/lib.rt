@@ -9,6 +9,7 @@ mod laws;
 mod lines;
 mod maps;
 mod named;
+mod session;
 mod text;
 mod wishes;
 
