@@ -5,14 +5,16 @@ use Rattle.mars_term.specs.Clauses.{IsAsk}
 use Rattle.mars_term.specs.declared.clause.Ask.{Ask}
 use Rattle.mars_script.specs.declared.script.Command.{Command}
 use Rattle.mars_script.specs.declared.script.Command.TheVariants as command
+use Rattle.mars_table.specs.declared.entry.Call.{Call}
+use Rattle.mars_table.specs.declared.entry.Reply.{Reply}
 use Rattle.mars_session.specs.declared.asking.AskStepped.{AskStepped}
 use Rattle.mars_session.specs.declared.asking.Asking.{Asking}
 use Rattle.mars_session.specs.declared.wishes.Wish.{Wish}
 use Rattle.mars_session.specs.SessionPoints.{SessionPart, SessionPoint, named_trees}
-use Rattle.mars_session.specs.CommandActs.{TableUse, Writes, Uses, ActsAt}
+use Rattle.mars_session.specs.CommandActs.{TableUse, Writes, Uses, ActsAt, AnswersCall}
 use Rattle.mars_session.specs.AskEvents.{IsAskEvent}
 use Rattle.mars_session.specs.AskingInside.{IsAsking, event_seen}
-use Rattle.mars_session.specs.SessionSeen.{SessionSeen}
+use Rattle.mars_session.specs.SessionSeen.{SessionSeen, WantsNext}
 use Rattle.mars_session.specs.WishesInside.{IsWish}
 
 -- a command's ask, where it is one, is well formed
@@ -66,3 +68,7 @@ pub record RunsOn (s : SessionSeen) (ask : Ask) (a : Asking) : Type 0 where
 pub record WishesNext (s : SessionSeen) (wish : Wish) : Type 0 where
   pub going : s.cut ≡ false
   pub next : IsPending s.part s.point wish
+
+-- the next event makes a call that the reply answers
+abbrev pub WantsReply : SessionSeen → Reply → Type 0
+WantsReply s reply = (call : Call) × WantsNext s call × AnswersCall call reply

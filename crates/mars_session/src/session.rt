@@ -2,7 +2,6 @@
 ghost use Rattle.std.specs.Prelude.{◌≡◌, ◌<◌, List, IfOk, OnOk, OnErr, Some, None, MatchOption, slice_get, All, length, map, true, false};
 ghost use Rattle.mars_term.specs.Clauses.{IsAsk};
 ghost use Rattle.mars_script.specs.declared.script.Script.{Script};
-ghost use Rattle.mars_script.specs.declared.script.Command.TheVariants.{Ask};
 ghost use Rattle.mars_table.specs.declared.entry.Call.{Call};
 ghost use Rattle.mars_session.specs.SessionPoints.{session_rules, part_of, held_numbers, named_trees};
 ghost use Rattle.mars_session.specs.CommandActs.{AnswersCall, ActsAt};
@@ -11,7 +10,7 @@ ghost use Rattle.mars_tree.specs.Graph.{Node};
 ghost use Rattle.mars_session.specs.SessionEvents.{WantsCall, ReachesPoint};
 ghost use Rattle.mars_session.specs.SessionSeen.{SessionSeen, started_session, cut_session, session_text, TurnsTo, MovesOn, WantsNext, TakesReply, HasMore};
 ghost use Rattle.mars_session.specs.AskingInside.{canon_of, IsBegun};
-ghost use Rattle.mars_session.specs.NextInside.{IsFormedAsk, WritesNext, AsksNext, RunsOn, WishesNext};
+ghost use Rattle.mars_session.specs.NextInside.{IsFormedAsk, WritesNext, AsksNext, RunsOn, WishesNext, WantsReply};
 ghost use Rattle.mars_session.specs.SessionEvents.{later_answer};
 
 use crate::acts::{Act, Latest, command_act};
@@ -21,7 +20,7 @@ use crate::lines::push_heading;
 use crate::maps::kept_trees;
 use crate::named::Named;
 use crate::text::SessionText;
-use crate::wishes::{Wish, change_names, push_reply, reply_change, wish_call};
+use crate::wishes::{Wish, change_names, outcome_of, wish_call};
 use mars_answer::Answer;
 use mars_base::NoMemory;
 use mars_rules::RuleBase;
@@ -80,6 +79,17 @@ fn later(earlier: Option<Answer>, answer: Option<Answer>) -> Option<Answer>
     }
 }
 
+/// The handles of names, in order.
+fn held_handles(alloc: Global, names: &[Named]) -> Result<Vec<Handle>, NoMemory>
+    ensures { IfOk result (λ held. map (λ h. h.0) held.items ≡ held_numbers names.now) }
+{
+    let mut held = Vec::new(alloc);
+    for named in names {
+        held.push(named.handle)?;
+    }
+    Ok(held)
+}
+
 /// Begins an ask, `None` where one of its kept names isn't there.
 fn open_ask<'a>(
     alloc: Global,
@@ -98,6 +108,43 @@ fn open_ask<'a>(
 }
 
 impl<'a> Session<'a> {
+    /// The session of an input with a number, at its start. The rules are the session's: the input's, and then its own.
+    pub fn new(
+        alloc: Global,
+        who: u32,
+        input: &'a Input,
+        rules: &'a RuleBase,
+        options: Options,
+    ) -> Result<Session<'a>, NoMemory>
+        requires session { who < length input.now.sessions }
+        requires asks { (script : Script) → slice_get input.now.sessions who ≡ Some script → All IsFormedAsk script.commands }
+        requires rules { (script : Script) → slice_get input.now.sessions who ≡ Some script → rules.now ≡ session_rules input.now script }
+        ensures { IfOk result (λ s. (script : Script) → slice_get input.now.sessions who ≡ Some script → s ≡ started_session (part_of input.now options who script)) }
+    {
+        let script = &input.sessions.as_slice()[who as usize];
+        let mut line = Vec::new(alloc);
+        push_heading(&mut line, &input.names, script.name)?;
+        let text = SessionText::new(alloc, &line)?;
+        Ok(Session {
+            alloc,
+            who,
+            name: script.name,
+            commands: script.commands.as_slice(),
+            names: &input.names,
+            rules,
+            budget: options.budget,
+            done: 0,
+            steps: 0,
+            answer: None,
+            map: Vec::new(alloc),
+            latest: None,
+            asking: None,
+            pending: None,
+            mine: Vec::new(alloc),
+            text,
+        })
+    }
+
     /// Writes the one line of the next command.
     fn write_line(&mut self, line: &[u8]) -> Result<(), NoMemory>
         requires { WritesNext self.old line.now }
@@ -160,7 +207,7 @@ impl<'a> Session<'a> {
     /// Takes the next step of the ask that runs.
     fn step(&mut self, ask: &'a Ask) -> Result<(), NoMemory>
         requires going { self.old.cut ≡ false }
-        requires next { slice_get self.old.part.commands self.old.point.done ≡ Some (Ask ask.now) }
+        requires next { slice_get self.old.part.commands self.old.point.done ≡ Some (Command.Ask ask.now) }
         ensures ok { OnOk result (MovesOn self.old self.new) }
         ensures err { OnErr result (self.new ≡ self.old) }
     {
@@ -186,7 +233,7 @@ impl<'a> Session<'a> {
     /// Does the next event, which is that of an ask.
     fn turn_ask(&mut self, ask: &'a Ask) -> Result<(), NoMemory>
         requires going { self.old.cut ≡ false }
-        requires next { slice_get self.old.part.commands self.old.point.done ≡ Some (Ask ask.now) }
+        requires next { slice_get self.old.part.commands self.old.point.done ≡ Some (Command.Ask ask.now) }
         ensures ok { OnOk result (MovesOn self.old self.new) }
         ensures err { OnErr result (self.new ≡ self.old) }
     {
@@ -270,6 +317,41 @@ impl<'a> Session<'a> {
             }
             Some(command) => self.turn_command(command),
         }
+    }
+
+    /// Takes the reply to the call that the last turn wanted. `NoMemory` changes neither the text nor the names; after it the
+    /// session may be cut.
+    pub fn take(&mut self, reply: Reply) -> Result<(), NoMemory>
+        requires { WantsReply self.old reply }
+        ensures ok { OnOk result ((call : Call) → WantsCall self.old.part self.old.point call → TakesReply self.old call reply self.new) }
+        ensures err { OnErr result (self.new ≡ self.old) }
+    {
+        let Some(wish) = self.pending.take() else {
+            return Err(NoMemory);
+        };
+        let outcome = outcome_of(self.alloc, self.names, &self.map, wish, &reply)?;
+        self.map.reserve(1)?;
+        self.mine.reserve(1)?;
+        self.text.push(&outcome.line)?;
+        self.text.end();
+        change_names(&mut self.map, outcome.change);
+        self.mine.push_reserved(Entry {
+            who: self.who,
+            call: outcome.call,
+            reply,
+        });
+        self.done += 1;
+        self.steps = 0;
+        self.answer = None;
+        self.asking = None;
+        Ok(())
+    }
+
+    /// The handles that it holds, one for each of its names, in the order in which these were taken.
+    pub fn held(&self) -> Result<Vec<Handle>, NoMemory>
+        ensures { IfOk result (λ held. map (λ h. h.0) held.items ≡ held_numbers self.now.point.names) }
+    {
+        held_handles(self.alloc, &self.map)
     }
 
     /// Ends the text with the line `memory`, in place of what the present command wrote. Takes no memory.

@@ -4,7 +4,7 @@ ghost use Rattle.mars_session.specs.declared.named.Named.{Named};
 ghost use Rattle.mars_session.specs.declared.wishes.Change.TheVariants.{Adds};
 ghost use Rattle.mars_session.specs.SessionPoints.{under_name};
 ghost use Rattle.mars_session.specs.CommandActs.{TableUse, call_of, keep_line, sweep_line, count_line, use_line, names_with, names_after};
-ghost use Rattle.mars_session.specs.WishesInside.{IsWish, changed};
+ghost use Rattle.mars_session.specs.WishesInside.{IsWish, changed, IsOutcome};
 
 use crate::lines::{
     push_dropped, push_full, push_kept, push_pinned, push_rows, push_shown, push_swept,
@@ -15,6 +15,7 @@ use mars_base::NoMemory;
 use mars_canon::Tree;
 use mars_table::{Call, Reply};
 use mars_tree::{NameId, Names};
+use std::alloc::Global;
 
 /// What a command wants of the table.
 #[derive(Drop)]
@@ -165,4 +166,29 @@ pub(crate) fn change_names(map: &mut Vec<Named>, change: Change)
         Change::Removes(name) => drop_name(map, name),
         Change::Nothing => {}
     }
+}
+
+/// What a reply to a wish's call comes to: the call, the line, and what becomes of the names.
+#[derive(Drop)]
+pub(crate) struct Outcome {
+    pub(crate) call: Call,
+    pub(crate) line: Vec<u8>,
+    pub(crate) change: Change,
+}
+
+/// What a reply to a wish's call comes to.
+pub(crate) fn outcome_of(
+    alloc: Global,
+    names: &Names,
+    map: &[Named],
+    wish: Wish,
+    reply: &Reply,
+) -> Result<Outcome, NoMemory>
+    ensures { IfOk result (λ outcome. (wanted : TableUse) → IsWish map.now wish wanted → IsOutcome names.now map.now wanted reply.now outcome) }
+{
+    let call = wish_call(map, &wish)?;
+    let mut line = Vec::new(alloc);
+    push_reply(&mut line, names, map, &wish, reply)?;
+    let change = reply_change(map, wish, reply)?;
+    Ok(Outcome { call, line, change })
 }
