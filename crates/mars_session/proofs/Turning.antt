@@ -1,5 +1,5 @@
 -- The events of a session as its code does them.
-use Rattle.std.proofs.Common.{◌≡◌, ℕ, zero, suc, ◌+◌, List, [], ◌∷◌, ◌++◌, refl, ap, sym, ◌∙◌, subst, arith}
+use Rattle.std.proofs.Common.{◌≡◌, ℕ, zero, suc, ◌+◌, List, [], ◌∷◌, ◌++◌, refl, ap, sym, ◌∙◌, subst, arith, inl}
 use Rattle.std.specs.Prelude.{Option, Some, None, slice_get, Bool, true, false, All, length, option_and_then}
 use Rattle.std.specs.Option.{option_map}
 use Rattle.mars_tree.specs.Graph.{Node}
@@ -16,7 +16,7 @@ use Rattle.mars_session.specs.declared.wishes.Wish.{Wish}
 use Rattle.mars_session.specs.declared.session.Session.TheInside.{Inside}
 use Rattle.mars_session.specs.SessionPoints.{SessionPart, SessionPoint, session_start, under_name, named_trees}
 use Rattle.mars_session.specs.CommandActs.{CommandAct, Writes, Uses, Asks, ActsAt, ask_act}
-use Rattle.mars_session.specs.AskEvents.{AskEvent}
+use Rattle.mars_session.specs.AskEvents.{AskEvent, EndsAtOnce, IsAskEvent}
 use Rattle.mars_session.specs.SessionEvents.{DoesAct, IsEvent, AreEvents, ReachesPoint, stepped_by}
 use Rattle.mars_session.specs.SessionSeen.{SessionSeen, restarted}
 use Rattle.mars_session.specs.NextInside.{IsFormedAsk, RunsAsk, IsPending, AsksNext}
@@ -96,3 +96,8 @@ trees_count names (name ∷ kept) trees is = by_name (λ more f. trees_count nam
     by_name : ((more : List (List Node)) → named_trees names kept ≡ Some more → length more ≡ length kept) → (o : Option Named) → option_and_then (λ n. option_map (λ more. n.tree ∷ more) (named_trees names kept)) o ≡ Some trees → length trees ≡ suc (length kept)
     by_name counted None e = absurd (cc e)
     by_name counted (Some n) e = by_rest n (named_trees names kept) counted e
+
+-- an ask that is at its end before any step has one event
+pub at_once : (part : SessionPart) (ask : Ask) (kept : List (List Node)) (steps : ℕ) (e : AskStepped) → steps ≡ 0 → EndsAtOnce ask kept part.budget 0 (event_seen e) → IsAskEvent part.names part.rules ask kept part.budget steps (event_seen e)
+unfolding IsAskEvent
+at_once part ask kept steps e none h = inl (record { none_done = none; ending = h.ending; ends = h.ends; event_is = h.event_is })

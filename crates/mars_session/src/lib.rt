@@ -3,6 +3,7 @@
 
 mod acts;
 mod asking;
+mod doors;
 mod events;
 mod forms;
 mod laws;
@@ -13,6 +14,7 @@ mod session;
 mod text;
 mod wishes;
 
+pub use doors::event;
 pub use events::{Event, Turned};
 pub use laws::{
     alone_grows, alone_is_one, ask_writes_its_text, calls_are_allowed, event_is_one,
@@ -20,3 +22,4 @@ pub use laws::{
     sessions_are_numbered, texts_grow, together_they_are_whole, uncut_is_whole, whole_goes_on,
 };
 pub use named::{Named, TreeForm};
+pub use session::Session;
