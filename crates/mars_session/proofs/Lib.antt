@@ -18,3 +18,4 @@ pub mod Trees
 pub mod Results
 pub mod AskSteps
 pub mod Turning
+pub mod DoorLemmas
