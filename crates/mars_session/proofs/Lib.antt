@@ -19,3 +19,4 @@ pub mod Results
 pub mod AskSteps
 pub mod Turning
 pub mod DoorLemmas
+pub mod RowLemmas

@@ -6,6 +6,7 @@ pub mod AskEvents
 pub mod SessionEvents
 pub mod SessionAlone
 pub mod SessionLaws
+pub mod SessionRows
 -- Promised: whole runs, the world, and its schedules.
 pub mod WholeRuns
 pub mod Worlds

@@ -1,5 +1,6 @@
 //! Laws of sessions, whole runs and schedules.
 ghost use Rattle.mars_session.specs.SessionLaws.{EventIsOne, AloneIsOne, AloneGrows, CallsAreAllowed, TextsGrow, AskWritesItsText};
+ghost use Rattle.mars_session.specs.SessionRows.{SessionRows};
 ghost use Rattle.mars_session.specs.Together.{EventsKeepEntries, TogetherTheyAreWhole, UncutIsWhole};
 ghost use Rattle.mars_session.specs.WorldLaws.{PartsAreNumbered, HistoryIsASchedule, ScheduleIsWhole, OrderIsOne, ScheduleIsOne, WholeGoesOn};
 
@@ -76,4 +77,9 @@ pub fn together_they_are_whole()
 /// Where no session was cut a run is whole.
 pub fn uncut_is_whole()
     ensures { UncutIsWhole }
+{}
+
+/// Worked rows: scripts, the replies that they get, and what the session alone writes.
+pub fn session_rows()
+    ensures { SessionRows }
 {}
