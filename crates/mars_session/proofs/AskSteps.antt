@@ -1,5 +1,5 @@
 -- What the code's step of an ask is.
-use Rattle.std.proofs.Common.{◌≡◌, ◌≢◌, ◌↔◌, ℕ, zero, suc, ◌+◌, ◌<◌, ◌≤◌, List, [], ◌∷◌, ◌++◌, length, Bool, true, false, not, nat_eq, Option, Some, None, refl, ap, sym, ◌∙◌, subst, arith, append-nil, inl, inr}
+use Rattle.std.proofs.Common.{◌≡◌, ◌≢◌, ◌↔◌, ℕ, suc, ◌+◌, List, [], ◌∷◌, ◌++◌, Bool, true, false, not, nat_eq, Option, Some, None, refl, ap, sym, ◌∙◌, subst, arith, inl, inr}
 use Rattle.std.specs.Prelude.{◌⊎◌, if◌then◌else◌, MatchOption, is_some}
 use Rattle.std.proofs.lemmas.Bool.{eqb-true, eq-eqb}
 use Rattle.mars_canon.specs.Canon.{Rooted}
@@ -16,7 +16,7 @@ use Rattle.mars_machine.specs.Steps.IsDerivation.{begins, goes}
 use Rattle.mars_machine.specs.Asks.{answer_count, HasEnough, EndsNow}
 use Rattle.mars_machine.specs.Machines.{SeenMachine, IsMachineStep, TellsNext, TellsSaying, TellsLeft, stepped_machine, started_machine}
 use Rattle.mars_machine.proofs.Runs.{derivation_once}
-use Rattle.mars_session.specs.Lines.{told_line, told_answer, ending_line}
+use Rattle.mars_session.specs.Lines.{told_line, told_answer}
 use Rattle.mars_session.specs.AskEvents.{AskEvent, GoesOnNow, ClosesBy, IsStepEvent}
 use Rattle.mars_session.specs.LinesInside.{CanBeWritten}
 use Rattle.mars_session.specs.AskingInside.{IsAsking, ending_at, is_enough, counted_answer, end_text}
@@ -178,9 +178,9 @@ module _ (names : List (List ℕ)) (budget : ℕ) (m : SeenMachine) (answers : �
   left_is : (left ≡ true) ↔ (next.after ≢ [])
   unfolding next
   left_is =
-    let run : IsAskRun m.rules m.ask m.kept (suc m.steps) t.said t.state = subst (λ (n : ℕ). IsAskRun m.rules m.ask m.kept n t.said t.state) one t.run in
-    let same = derivation_once m.rules m.ask m.kept (suc m.steps) t.said (next.said ++ next.says ∷ []) t.state next.after run run_on in
-    subst (λ (s : List Alternative). (left ≡ true) ↔ (s ≢ [])) same.1 t.left_is
+      let run : IsAskRun m.rules m.ask m.kept (suc m.steps) t.said t.state = subst (λ (n : ℕ). IsAskRun m.rules m.ask m.kept n t.said t.state) one t.run in
+      let same = derivation_once m.rules m.ask m.kept (suc m.steps) t.said (next.said ++ next.says ∷ []) t.state next.after run run_on in
+      subst (λ (s : List Alternative). (left ≡ true) ↔ (s ≢ [])) same.1 t.left_is
 
   count : counted_answer answers (told_answer stepped) ≡ answer_count (next.said ++ next.says ∷ [])
   unfolding next
@@ -190,16 +190,22 @@ module _ (names : List (List ℕ)) (budget : ℕ) (m : SeenMachine) (answers : �
       → MatchOption o (GoesOnNow budget m.ask.most (suc m.steps) (next.said ++ next.says ∷ []) next.after) (λ e. EndsNow budget m.ask.most (suc m.steps) (next.said ++ next.says ∷ []) next.after e)
   unfolding next
   ends o is =
-    let at : o ≡ ending_at m.ask.most (counted_answer answers (told_answer stepped)) left (suc m.steps) budget = is ∙ ap (λ (n : ℕ). ending_at m.ask.most (counted_answer answers (told_answer stepped)) left n budget) one in
-    subst (λ (x : Option Ending). MatchOption x (GoesOnNow budget m.ask.most (suc m.steps) (next.said ++ next.says ∷ []) next.after) (λ e. EndsNow budget m.ask.most (suc m.steps) (next.said ++ next.says ∷ []) next.after e)) (sym at)
+      let at : o ≡ ending_at m.ask.most (counted_answer answers (told_answer stepped)) left (suc m.steps) budget = is ∙ ap (λ (n : ℕ). ending_at m.ask.most (counted_answer answers (told_answer stepped)) left n budget) one in
+      subst (λ (x : Option Ending). MatchOption x (GoesOnNow budget m.ask.most (suc m.steps) (next.said ++ next.says ∷ []) next.after) (λ e. EndsNow budget m.ask.most (suc m.steps) (next.said ++ next.says ∷ []) next.after e)) (sym at)
       (ends_by budget m.ask.most (suc m.steps) (next.said ++ next.says ∷ []) next.after left left_is (counted_answer answers (told_answer stepped)) count)
 
   pub step_event : (o : Option Ending) → o ≡ ending_at m.ask.most (counted_answer answers (told_answer stepped)) left (m.steps + 1) budget → IsStepEvent names m.rules m.ask m.kept budget m.steps (found_event names m answers stepped o)
   unfolding next
   step_event o e = record {
-    said = next.said; state = next.state; run = next.run;
+    said = next.said;
+    state = next.state;
+    run = next.run;
     goes_on = subst (λ (l : List Says). GoesOnNow budget m.ask.most m.steps l next.state) said_same (subst (λ (s : List Alternative). GoesOnNow budget m.ask.most m.steps a.said s) state_same a.goes_on);
-    says = next.says; after = next.after; step = next.step; stepped = stepped; tells = next.tells;
+    says = next.says;
+    after = next.after;
+    step = next.step;
+    stepped = stepped;
+    tells = next.tells;
     line = end_text o (suc m.steps);
     closes = closes_by budget m.ask.most (suc m.steps) (next.said ++ next.says ∷ []) next.after o (ends o e);
     text_is = λ i. told_line names m.ask.vars ((a.count ∙ ap answer_count said_same) i) stepped ++ end_text o (one i);
@@ -209,15 +215,17 @@ module _ (names : List (List ℕ)) (budget : ℕ) (m : SeenMachine) (answers : �
   pub asks_on : (o : Option Ending) → o ≡ ending_at m.ask.most (counted_answer answers (told_answer stepped)) left (m.steps + 1) budget → is_some o ≡ false → IsAsking budget (stepped_on m) (counted_answer answers (told_answer stepped))
   unfolding next
   asks_on o e none =
-    let goes = goes_by budget m.ask.most (suc m.steps) (next.said ++ next.says ∷ []) next.after o (ends o e) none in
-    let below = below_budget budget m.ask.most (suc m.steps) (next.said ++ next.says ∷ []) next.after goes (omega (arith, a.within)) in
-    record {
-      works = a.works; said = next.said ++ next.says ∷ []; state = next.after;
-      run = subst (λ (n : ℕ). IsAskRun m.rules m.ask m.kept n (next.said ++ next.says ∷ []) next.after) (sym one) run_on;
-      count = count;
-      goes_on = subst (λ (n : ℕ). GoesOnNow budget m.ask.most n (next.said ++ next.says ∷ []) next.after) (sym one) goes;
-      within = omega (arith, below);
-    }
+      let goes = goes_by budget m.ask.most (suc m.steps) (next.said ++ next.says ∷ []) next.after o (ends o e) none in
+      let below = below_budget budget m.ask.most (suc m.steps) (next.said ++ next.says ∷ []) next.after goes (omega (arith, a.within)) in
+      record {
+        works = a.works;
+        said = next.said ++ next.says ∷ [];
+        state = next.after;
+        run = subst (λ (n : ℕ). IsAskRun m.rules m.ask m.kept n (next.said ++ next.says ∷ []) next.after) (sym one) run_on;
+        count = count;
+        goes_on = subst (λ (n : ℕ). GoesOnNow budget m.ask.most n (next.said ++ next.says ∷ []) next.after) (sym one) goes;
+        within = omega (arith, below);
+      }
 
 -- An ask at its beginning: an alternative is left.
 start_left : (first : Alternative) → (true ≡ true) ↔ (first ∷ [] ≢ [])

@@ -2,6 +2,7 @@
 use Rattle.std.proofs.Common.{◌≡◌, ◌≢◌, ℕ, zero, suc, ◌+◌, ◌<◌, ◌≤◌, List, [], ◌∷◌, ◌++◌, Bool, true, false, Option, Some, refl, ap, sym, ◌∙◌, subst, arith, append-nil, append_assoc, inl, inr}
 use Rattle.std.specs.Prelude.{◌⊎◌, slice_get}
 use Rattle.std.proofs.lemmas.Bool.{cases_lt}
+use Rattle.std.proofs.lemmas.Option.{slice_get_within}
 use Rattle.mars_tree.specs.Graph.{Node}
 use Rattle.mars_term.specs.declared.clause.Ask.{Ask}
 use Rattle.mars_script.specs.declared.script.Command.{Command}
@@ -15,12 +16,12 @@ use Rattle.mars_machine.specs.Asks.{answer_count, HasEnough, EndsNow}
 use Rattle.mars_machine.specs.Machines.{TellsSaying}
 use Rattle.mars_machine.proofs.Runs.{derivation_once}
 use Rattle.mars_session.specs.Lines.{told_line, ending_line}
-use Rattle.mars_session.specs.SessionPoints.{SessionPart, SessionPoint, named_trees}
+use Rattle.mars_session.specs.SessionPoints.{SessionPart, SessionPoint, session_start, named_trees}
 use Rattle.mars_session.specs.CommandActs.{CommandAct, Writes, Uses, Asks, ActsAt, ask_act, use_line}
 use Rattle.mars_session.specs.AskEvents.{AskEvent, GoesOnNow, ClosesBy, IsAskEvent, AreSayingLines, IsAskText}
 use Rattle.mars_session.specs.SessionEvents.{stepped_by, DoesAct, IsEvent, AreEvents}
 use Rattle.mars_session.specs.SessionAlone.{BeginsWith}
-use Rattle.mars_session.specs.SessionLaws.{TextsGrow, BeginsAsk, AskWritesItsText}
+use Rattle.mars_session.specs.SessionLaws.{TextsGrow, BeginsAsk, AskWritesItsText, Advances, command_more, step_more, EventsAdvance}
 
 -- where an ask isn't at its end, a step is left of its budget
 some_left : (state : List Alternative) → (state ≡ []) ⊎ (state ≢ [])
@@ -234,3 +235,36 @@ grows_by part (Asks ask kept) p q d = subst (λ (x : SessionPoint). BeginsWith (
 
 pub texts_grow : TextsGrow
 texts_grow part p q n = grows_by part n.act p q n.does
+
+-- Each event brings a session nearer to its end.
+within_step : (part : SessionPart) (ask : Ask) (kept : List (List Node)) (p : SessionPoint) (event : AskEvent) → IsAskEvent part.names part.rules ask kept part.budget p.steps event → event.ends ≡ false → p.steps ≤ part.budget → suc p.steps < part.budget
+unfolding IsAskEvent
+within_step part ask kept p event (inl h) none within = absurd (cc (none, ap (λ (e : AskEvent). e.ends) h.event_is))
+within_step part ask kept p event (inr h) none within =
+    let below = below_budget part.budget ask.most p.steps h.said h.state h.goes_on within in
+    let closes : ClosesBy part.budget ask.most (suc p.steps) (h.said ++ h.says ∷ []) h.after h.line false = subst (λ (b : Bool). ClosesBy part.budget ask.most (suc p.steps) (h.said ++ h.says ∷ []) h.after h.line b) none h.closes in
+    below_budget part.budget ask.most (suc p.steps) (h.said ++ h.says ∷ []) h.after closes.0 (omega (arith, below))
+
+advances_by : (part : SessionPart) (act : CommandAct) (p q : SessionPoint) → DoesAct part act p q → p.steps ≤ part.budget → Advances part p q
+advances_by part (Writes line) p q d within = command_more (ap (λ (x : SessionPoint). x.done) d) (ap (λ (x : SessionPoint). x.steps) d)
+advances_by part (Uses wish) p q d within = command_more (ap (λ (x : SessionPoint). x.done) d.2) (ap (λ (x : SessionPoint). x.steps) d.2)
+advances_by part (Asks ask kept) p q d within = by_end d.0.ends refl d.2
+  where
+    by_end : (b : Bool) → d.0.ends ≡ b → q ≡ stepped_by d.0.ends ask.vars d.0 p → Advances part p q
+    by_end true is to = let to' : q ≡ stepped_by true ask.vars d.0 p = to ∙ ap (λ (b : Bool). stepped_by b ask.vars d.0 p) is in command_more (ap (λ (x : SessionPoint). x.done) to') (ap (λ (x : SessionPoint). x.steps) to')
+    by_end false is to =
+        let to' : q ≡ stepped_by false ask.vars d.0 p = to ∙ ap (λ (b : Bool). stepped_by b ask.vars d.0 p) is in
+        let steps : q.steps ≡ suc p.steps = ap (λ (x : SessionPoint). x.steps) to' in
+        step_more (ap (λ (x : SessionPoint). x.done) to') steps (let below = within_step part ask kept p d.0 d.1 is within in omega (arith, steps, below))
+
+within_on : (part : SessionPart) (p q : SessionPoint) → Advances part p q → q.steps ≤ part.budget
+within_on part p q (command_more done steps) = omega (arith, steps)
+within_on part p q (step_more done steps below) = omega (arith, below)
+
+within_after : (part : SessionPart) (n : ℕ) (p q : SessionPoint) → AreEvents part n p q → p.steps ≤ part.budget → q.steps ≤ part.budget
+within_after part zero p q a within = subst (λ (x : SessionPoint). x.steps ≤ part.budget) (sym a) within
+within_after part (suc n) p q a within = within_after part n a.0 q a.2 (within_on part p a.0 (advances_by part a.1.act p a.0 a.1.does within))
+
+pub events_advance : EventsAdvance
+events_advance part p q r n =
+    (slice_get_within part.commands p.done n.command n.is_next, advances_by part n.act p q n.does (within_after part r.0 (session_start part) p r.1 (omega arith)))

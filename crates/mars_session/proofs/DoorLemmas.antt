@@ -1,6 +1,6 @@
 -- A call that was answered through a door.
-use Rattle.std.proofs.Common.{◌≡◌, ℕ, ◌<◌, List, [], ◌∷◌, ◌++◌, length, refl, ap, sym, ◌∙◌, subst, inl, inr}
-use Rattle.std.specs.Prelude.{◌⊎◌, Bool, true, false, Some, slice_get}
+use Rattle.std.proofs.Common.{◌≡◌, ℕ, List, [], ◌∷◌, ◌++◌, ap, sym, ◌∙◌, subst, inr}
+use Rattle.std.specs.Prelude.{Bool}
 use Rattle.std.proofs.lemmas.Option.{slice_get_within}
 use Rattle.mars_rows.specs.Object.{TableObject, empty_table}
 use Rattle.mars_rows.specs.RowsObject.{Adding, add}
@@ -8,14 +8,13 @@ use Rattle.mars_rows.specs.RowsObject.Adding.{root, too_many}
 use Rattle.mars_table.specs.declared.entry.Call.{Call}
 use Rattle.mars_table.specs.declared.entry.Call.TheVariants.{Intern, Pin, Show, Drop, Sweep, Count}
 use Rattle.mars_table.specs.declared.entry.Reply.{Reply}
-use Rattle.mars_table.specs.declared.entry.Reply.TheVariants.{Kept, Full, Pinned, Shown, Dropped, Swept, Counted}
 use Rattle.mars_table.specs.declared.entry.Entry.{Entry}
 use Rattle.mars_table.specs.Calls.{IsReply, reply_to_adding}
 use Rattle.mars_table.specs.Door.{SeesMore}
-use Rattle.mars_table.specs.History.{AreReplies, Legal, call_entry}
+use Rattle.mars_table.specs.History.{Legal, call_entry}
 use Rattle.mars_table.proofs.HistoryLemmas.{replies_after}
 use Rattle.mars_session.specs.declared.events.Event.TheVariants.{Called}
-use Rattle.mars_session.specs.CommandActs.{AnswersCall, call_of}
+use Rattle.mars_session.specs.CommandActs.{AnswersCall}
 use Rattle.mars_session.specs.SessionEvents.{WantsCall}
 use Rattle.mars_session.specs.SessionSeen.{SessionSeen, HasMore, WantsNext, TakesReply, cut_session}
 use Rattle.mars_session.specs.DoorEvents.{IsAtDoor, CallsDoor, CutsShort, FollowsDoor}
@@ -59,7 +58,8 @@ module _ (lone : Bool) (cap : ℕ) (old mid : SessionSeen) (call : Call) (reply 
 
   pub cut_after_call : (new : SessionSeen) → new ≡ cut_session mid → CutsShort lone old mine seen new mine_after seen_after
   cut_after_call new is = record {
-    went = has_more old call w.0; cut = is ∙ ap cut_session w.1;
+    went = has_more old call w.0;
+    cut = is ∙ ap cut_session w.1;
     door = inr (call, reply, w.0, door_fits lone cap who call reply seen seen_after sees legal, called_door);
   }
 

@@ -1,41 +1,36 @@
 -- The worked rows.
-use Rattle.std.proofs.Common.{◌≡◌, ◌≢◌, ◌↔◌, ℕ, zero, suc, ◌<◌, ◌≤◌, List, [], ◌∷◌, ◌++◌, length, map, take, Option, Some, None, true, refl, ap, sym, ◌∙◌, subst, arith, inl, inr, lit≤}
-use Rattle.std.specs.Prelude.{All, Contains, slice_get, codes}
+use Rattle.std.proofs.Common.{◌≡◌, ◌≢◌, ℕ, zero, suc, ◌<◌, [], ◌∷◌, ◌++◌, take, Some, None, true, refl, sym, subst, arith, inl, inr, lit≤}
+use Rattle.std.specs.Prelude.{Contains, codes}
 use Rattle.std.specs.Fmt.{digits}
 use Rattle.std.proofs.lemmas.List.Elements.{All-nil, All-cons}
-use Rattle.mars_tree.specs.declared.label.Label.{Label}
 use Rattle.mars_tree.specs.declared.label.Label.TheVariants.{Name}
-use Rattle.mars_tree.specs.Graph.{Node, IsNode, IsGraph, IsGround, labelled}
-use Rattle.mars_tree.specs.Canonical.{IsCanonical, IsReduced, FirstInOrder, mentions, known_after}
+use Rattle.mars_tree.specs.Graph.{IsNode, IsGraph, IsGround, labelled}
+use Rattle.mars_tree.specs.Canonical.{IsCanonical, mentions}
 use Rattle.mars_tree.proofs.CallerLemmas.{label_in, end_in}
 use Rattle.mars_reach.specs.Reach.{ReachesNoFree}
 use Rattle.mars_canon.specs.Canon.{Rooted, IsCanon}
 use Rattle.mars_canon.specs.Tree.{IsTree}
-use Rattle.mars_rows.specs.TreeGraph.{IsTreeGraph, IsTreeGraphOf}
+use Rattle.mars_rows.specs.TreeGraph.{IsTreeGraphOf}
 use Rattle.mars_answer.specs.declared.answers.Answer.{Answer}
 use Rattle.mars_print.specs.Text.{is_named, name_of, reference}
 use Rattle.mars_print.specs.Items.{answer_text}
-use Rattle.mars_script.specs.declared.script.Command.{Command}
 use Rattle.mars_script.specs.declared.script.Command.TheVariants as command
-use Rattle.mars_machine.specs.declared.ending.Ending.{Ending}
 use Rattle.mars_machine.specs.declared.ending.Ending.TheVariants.{End, Enough, Stopped}
 use Rattle.mars_machine.specs.declared.stepped.Stepped.TheVariants.{Answered}
 use Rattle.mars_machine.specs.Equations.{Equations, AreSolvable}
 use Rattle.mars_machine.specs.Alternatives.{Alternative, ask_start}
-use Rattle.mars_machine.specs.Steps.{Says, answer, IsAskRun}
+use Rattle.mars_machine.specs.Steps.{answer}
 use Rattle.mars_machine.specs.Steps.IsDerivationStep.{answers}
 use Rattle.mars_machine.specs.Steps.IsDerivation.{begins}
-use Rattle.mars_machine.specs.Asks.{EndsNow}
 use Rattle.mars_machine.specs.TermAnswers.{IsTermAnswer, IsAnswerOf}
 use Rattle.mars_machine.specs.TermAnswers.AreOpenUnder.{none as none_open}
 use Rattle.mars_machine.proofs.Runs.{start_alive}
-use Rattle.mars_table.specs.declared.entry.Reply.{Reply}
 use Rattle.mars_table.specs.declared.entry.Reply.TheVariants as reply
 use Rattle.mars_session.specs.declared.named.Named.{Named}
 use Rattle.mars_session.specs.declared.named.TreeForm.TheVariants.{Small}
 use Rattle.mars_session.specs.Lines.{no_name_line, told_line, ending_line}
 use Rattle.mars_session.specs.SessionPoints.{SessionPart, SessionPoint, session_start}
-use Rattle.mars_session.specs.CommandActs.{CommandAct, Writes, Uses, Asks, TableUse, Keeps, Pins, Shows, Drops, Sweeps, Counts, ActsAt}
+use Rattle.mars_session.specs.CommandActs.{Writes, Uses, Asks, Keeps, Pins, Shows, Drops, Sweeps, Counts, ActsAt}
 use Rattle.mars_session.specs.AskEvents.{AskEvent, GoesOnNow, IsAskEvent}
 use Rattle.mars_session.specs.SessionEvents.{IsEvent, answered, command_done, stepped_by}
 use Rattle.mars_session.specs.SessionAlone.{IsSessionAlone, at_end}
@@ -166,7 +161,10 @@ table_written = refl
 
 table_row : IsSessionAlone table_part table_replies table_text table_calls
 table_row = record {
-  point = t8; reached = (8, (t1, e1, (t2, e2, (t3, e3, (t4, e4, (t5, e5, (t6, e6, (t7, e7, (t8, e8, refl))))))))); comes = at_end refl ([], refl); text_is = table_written;
+  point = t8;
+  reached = (8, (t1, e1, (t2, e2, (t3, e3, (t4, e4, (t5, e5, (t6, e6, (t7, e7, (t8, e8, refl)))))))));
+  comes = at_end refl ([], refl);
+  text_is = table_written;
 }
 
 -- The script of asks.
@@ -182,7 +180,8 @@ no_graph_canon = record {
 
 nothing_asked : (e : Equations) → AreSolvable e [] → IsTermAnswer e [] no_graph
 nothing_asked e s = record {
-  canon = no_graph_canon; count = refl;
+  canon = no_graph_canon;
+  count = refl;
   labels = λ walk label. (λ h. absurd (cc h), λ h. let f = h s.v s.solves in absurd (cc f));
   leaves = λ walk. (λ h. absurd (cc h), λ h. absurd (h.0 s.v s.solves refl));
   together = λ walk other. (λ h. absurd (cc h.1), λ h. absurd (h.there s.v s.solves refl));
@@ -200,8 +199,12 @@ solvable_start = start_alive ask_nothing []
 module _ (told : Answer) (h : HasNoRoots told) where
   is_answer : IsAnswerOf ask_nothing first_start told
   is_answer = record {
-    differ = []; open_are = none_open; graph = subst (λ (c : Rooted). IsTermAnswer first_start.equations [] c) (sym h.canon) (nothing_asked first_start.equations solvable_start);
-    vars = h.vars; difs = h.difs; frozen = h.frozen;
+    differ = [];
+    open_are = none_open;
+    graph = subst (λ (c : Rooted). IsTermAnswer first_start.equations [] c) (sym h.canon) (nothing_asked first_start.equations solvable_start);
+    vars = h.vars;
+    difs = h.difs;
+    frozen = h.frozen;
   }
 
   abbrev first_event : AskEvent
@@ -215,8 +218,19 @@ module _ (told : Answer) (h : HasNoRoots told) where
   first_is : IsAskEvent row_spellings ask_part.rules ask_nothing [] 5 0 first_event
   unfolding IsAskEvent
   first_is = inr (record {
-    said = []; state = first_start ∷ []; run = begins; goes_on = first_goes_on; says = answer first_start; after = []; step = answers refl;
-    stepped = Answered told; tells = (first_start, refl, is_answer); line = ending_line End 1; closes = (End, (refl, λ e. cc e), refl); text_is = refl; answer_is = refl;
+    said = [];
+    state = first_start ∷ [];
+    run = begins;
+    goes_on = first_goes_on;
+    says = answer first_start;
+    after = [];
+    step = answers refl;
+    stepped = Answered told;
+    tells = (first_start, refl, is_answer);
+    line = ending_line End 1;
+    closes = (End, (refl, λ e. cc e), refl);
+    text_is = refl;
+    answer_is = refl;
   })
 
   abbrev q0 : SessionPoint

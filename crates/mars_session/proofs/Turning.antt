@@ -1,6 +1,6 @@
 -- The events of a session as its code does them.
-use Rattle.std.proofs.Common.{◌≡◌, ℕ, zero, suc, ◌+◌, List, [], ◌∷◌, ◌++◌, refl, ap, sym, ◌∙◌, subst, arith, inl}
-use Rattle.std.specs.Prelude.{Option, Some, None, slice_get, Bool, true, false, All, length, option_and_then}
+use Rattle.std.proofs.Common.{◌≡◌, ℕ, zero, suc, ◌+◌, List, [], ◌∷◌, refl, ap, sym, ◌∙◌, subst, arith, inl}
+use Rattle.std.specs.Prelude.{Option, Some, None, Bool, true, false, All, length, option_and_then}
 use Rattle.std.specs.Option.{option_map}
 use Rattle.mars_tree.specs.Graph.{Node}
 use Rattle.mars_term.specs.declared.clause.Ask.{Ask}
@@ -10,7 +10,6 @@ use Rattle.mars_session.specs.declared.asking.AskStepped.{AskStepped}
 use Rattle.mars_session.specs.Lines.{no_name_line}
 use Rattle.mars_session.specs.AskingInside.{event_seen}
 use Rattle.mars_tree.specs.declared.label.NameId.{NameId}
-use Rattle.mars_script.specs.declared.script.Command.{Command}
 use Rattle.mars_session.specs.declared.asking.Asking.{Asking}
 use Rattle.mars_session.specs.declared.wishes.Wish.{Wish}
 use Rattle.mars_session.specs.declared.session.Session.TheInside.{Inside}
@@ -18,7 +17,7 @@ use Rattle.mars_session.specs.SessionPoints.{SessionPart, SessionPoint, session_
 use Rattle.mars_session.specs.CommandActs.{CommandAct, Writes, Uses, Asks, ActsAt, ask_act}
 use Rattle.mars_session.specs.AskEvents.{AskEvent, EndsAtOnce, IsAskEvent}
 use Rattle.mars_session.specs.SessionEvents.{DoesAct, IsEvent, AreEvents, ReachesPoint, stepped_by}
-use Rattle.mars_session.specs.SessionSeen.{SessionSeen, restarted}
+use Rattle.mars_session.specs.SessionSeen.{restarted}
 use Rattle.mars_session.specs.NextInside.{IsFormedAsk, RunsAsk, IsPending, AsksNext}
 use Rattle.mars_session.specs.SessionInside.{part_in, point_in, seen_in, IsSessionKept}
 use Rattle.mars_session.proofs.Points.{after_snoc}
@@ -38,15 +37,20 @@ none_waits part p o none w is = absurd (cc (none, is))
 
 pub kept_done : (q : Inside) → ReachesPoint (part_in q) (point_in q) → All IsFormedAsk q.commands.now → q.asking ≡ None → q.pending ≡ None → IsSessionKept q
 kept_done q reached asks none nothing = record {
-    reached = reached; asks = asks;
-    runs = none_runs (part_in q) (point_in q) q.asking none; waits = none_waits (part_in q) (point_in q) q.pending nothing;
-  }
+  reached = reached;
+  asks = asks;
+  runs = none_runs (part_in q) (point_in q) q.asking none;
+  waits = none_waits (part_in q) (point_in q) q.pending nothing;
+}
 
 -- the same where an ask goes on
 pub kept_on : (q : Inside) → ReachesPoint (part_in q) (point_in q) → All IsFormedAsk q.commands.now → ((a : Asking) → q.asking ≡ Some a → RunsAsk (part_in q) (point_in q) a) → q.pending ≡ None → IsSessionKept q
 kept_on q reached asks runs nothing = record {
-    reached = reached; asks = asks; runs = runs; waits = none_waits (part_in q) (point_in q) q.pending nothing;
-  }
+  reached = reached;
+  asks = asks;
+  runs = runs;
+  waits = none_waits (part_in q) (point_in q) q.pending nothing;
+}
 
 -- The beginning of the present command was reached too.
 restart_does : (part : SessionPart) (act : CommandAct) (p m : SessionPoint) → DoesAct part act p m → ReachesPoint part m → ReachesPoint part (restarted p) → ReachesPoint part (restarted m)
@@ -80,9 +84,12 @@ unnamed_act p ask trees = sym (ap (ask_act ask) trees)
 -- the last event of an ask
 pub ask_ended : (p q : Inside) (ask : Ask) (e : AskStepped) → AsksNext (seen_in p) ask e → e.ends ≡ true → point_in q ≡ stepped_by true ask.vars (event_seen e) (point_in p) → IsEvent (part_in p) (point_in p) (point_in q)
 ask_ended p q ask e next ends to = record {
-    command = command.Ask ask; is_next = next.next.is_next; act = Asks ask next.kept; acts = asks_act (point_in p) ask next.kept next.next.trees;
-    does = (event_seen e, next.event, to ∙ ap (λ (b : Bool). stepped_by b ask.vars (event_seen e) (point_in p)) (sym ends));
-  }
+  command = command.Ask ask;
+  is_next = next.next.is_next;
+  act = Asks ask next.kept;
+  acts = asks_act (point_in p) ask next.kept next.next.trees;
+  does = (event_seen e, next.event, to ∙ ap (λ (b : Bool). stepped_by b ask.vars (event_seen e) (point_in p)) (sym ends));
+}
 
 -- trees are as many as their names
 pub trees_count : (names : List Named) (kept : List NameId) (trees : List (List Node)) → named_trees names kept ≡ Some trees → length trees ≡ length kept

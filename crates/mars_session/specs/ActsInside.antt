@@ -1,5 +1,5 @@
 -- What the code finds of a command.
-use Rattle.std.specs.Prelude.{◌≡◌, List, Option, Some, None}
+use Rattle.std.specs.Prelude.{List, Option}
 use Rattle.std.specs.Option.{option_map}
 use Rattle.mars_session.specs.declared.named.Named.{Named}
 use Rattle.mars_session.specs.declared.acts.Act.{Act}

@@ -1,5 +1,5 @@
 -- What the code knows of a session's next command.
-use Rattle.std.specs.Prelude.{◌≡◌, ⊤, ℕ, ◌+◌, List, Option, Some, true, false, slice_get}
+use Rattle.std.specs.Prelude.{◌≡◌, ⊤, ℕ, ◌+◌, List, Some, false, slice_get}
 use Rattle.mars_tree.specs.Graph.{Node}
 use Rattle.mars_term.specs.Clauses.{IsAsk}
 use Rattle.mars_term.specs.declared.clause.Ask.{Ask}

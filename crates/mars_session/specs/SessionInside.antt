@@ -1,15 +1,9 @@
 -- Inside a session: its fields as contracts see them, and what the code knows of the ask that runs and of the call that is wanted.
-use Rattle.std.specs.Prelude.{◌≡◌, ⊤, ℕ, List, Option, Some, All, slice_get}
-use Rattle.mars_tree.specs.Graph.{Node}
-use Rattle.mars_term.specs.Clauses.{IsAsk}
-use Rattle.mars_term.specs.declared.clause.Ask.{Ask}
-use Rattle.mars_script.specs.declared.script.Command.{Command}
-use Rattle.mars_script.specs.declared.script.Command.TheVariants as command
-use Rattle.mars_session.specs.declared.asking.AskStepped.{AskStepped}
+use Rattle.std.specs.Prelude.{◌≡◌, Some, All}
 use Rattle.mars_session.specs.declared.asking.Asking.{Asking}
 use Rattle.mars_session.specs.declared.wishes.Wish.{Wish}
 use Rattle.mars_session.specs.declared.session.Session.TheInside.{Inside}
-use Rattle.mars_session.specs.SessionPoints.{SessionPart, SessionPoint, named_trees}
+use Rattle.mars_session.specs.SessionPoints.{SessionPart, SessionPoint}
 use Rattle.mars_session.specs.SessionSeen.{SessionSeen}
 use Rattle.mars_session.specs.SessionEvents.{ReachesPoint}
 use Rattle.mars_session.specs.ActsInside.{latest_of}
@@ -21,8 +15,14 @@ part_in p = record { who = p.who; name = p.name; commands = p.commands.now; rule
 
 abbrev pub point_in : Inside → SessionPoint
 point_in p = record {
-  done = p.done; steps = p.steps; answer = canon_of p.answer; names = p.map.items; latest = latest_of p.latest; mine = p.mine.items;
-  before = p.text.before; present = p.text.present;
+  done = p.done;
+  steps = p.steps;
+  answer = canon_of p.answer;
+  names = p.map.items;
+  latest = latest_of p.latest;
+  mine = p.mine.items;
+  before = p.text.before;
+  present = p.text.present;
 }
 
 abbrev pub seen_in : Inside → SessionSeen

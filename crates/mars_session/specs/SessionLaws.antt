@@ -1,6 +1,6 @@
 -- Laws: what a session alone does is determined by its replies, and its text only grows with them; what it asks of the table it
 -- may ask; the events of an ask write the ask's text; its text only grows.
-use Rattle.std.specs.Prelude.{◌≡◌, ℕ, suc, List, [], ◌++◌, Some, slice_get}
+use Rattle.std.specs.Prelude.{◌≡◌, ℕ, suc, ◌<◌, List, [], ◌++◌, length, Some, slice_get}
 use Rattle.mars_tree.specs.Graph.{Node}
 use Rattle.mars_term.specs.declared.clause.Ask.{Ask}
 use Rattle.mars_script.specs.declared.script.Command.TheVariants as command
@@ -43,3 +43,12 @@ pub record BeginsAsk (part : SessionPart) (p : SessionPoint) (ask : Ask) (kept :
 abbrev pub AskWritesItsText : Type 0
 AskWritesItsText = (part : SessionPart) (n : ℕ) (p m q : SessionPoint) (ask : Ask) (kept : List (List Node)) → BeginsAsk part p ask kept → AreEvents part n p m → m.done ≡ p.done → IsEvent part m q → q.done ≡ suc p.done →
     (text : List ℕ) × IsAskText part.names part.rules ask kept part.budget text × (q.before ≡ p.before ++ text)
+
+-- a command is done, or one step more of its ask, which is less than the budget
+pub data Advances (part : SessionPart) (p q : SessionPoint) : Type 0 where
+  command_more : q.done ≡ suc p.done → q.steps ≡ 0 → Advances part p q
+  step_more : q.done ≡ p.done → q.steps ≡ suc p.steps → q.steps < part.budget → Advances part p q
+
+-- so each event does, while a command is left: a session comes to its end
+abbrev pub EventsAdvance : Type 0
+EventsAdvance = (part : SessionPart) (p q : SessionPoint) → ReachesPoint part p → IsEvent part p q → (p.done < length part.commands) × Advances part p q

@@ -1,5 +1,5 @@
 -- Inside a text: its bytes, of which those up to a mark are the commands' that are done; and room for the line `memory`.
-use Rattle.std.specs.Prelude.{◌≡◌, ◌+◌, ◌≤◌, ℕ, List, [], length, take, drop, Bool, true, false, if◌then◌else◌, vec_len, vec_capacity}
+use Rattle.std.specs.Prelude.{◌≡◌, ◌+◌, ◌≤◌, [], length, take, drop, true, false, if◌then◌else◌}
 use Rattle.mars_session.specs.Lines.{memory_line}
 use Rattle.mars_session.specs.TextSeen.{TextSeen}
 use Rattle.mars_session.specs.declared.text.SessionText.TheInside.{Inside}

@@ -104,12 +104,7 @@ fn place_of_variable(vars: &[NameId], var: NameId) -> Option<usize>
 }
 
 /// Keeps the tree of a variable in the answer of an ask that ran.
-fn keep_variable(
-    alloc: Global,
-    name: NameId,
-    var: NameId,
-    latest: &Latest,
-) -> Result<Act, NoMemory>
+fn keep_variable(alloc: Global, name: NameId, var: NameId, latest: &Latest) -> Result<Act, NoMemory>
     ensures { IfOk result (λ act. (names : List Named) → IsAct names (KeepsVariable name var latest.now.vars.now (option_map (λ a. a.canon) latest.now.answer)) act) }
 {
     match &latest.answer {
@@ -160,19 +155,18 @@ fn same_line(left: Option<&Named>, right: Option<&Named>) -> &'static [u8]
 {
     match (left, right) {
         (Some(left), Some(right)) => {
-            if left.tree == right.tree { b"same yes\n" } else { b"same no\n" }
+            if left.tree == right.tree {
+                b"same yes\n"
+            } else {
+                b"same no\n"
+            }
         }
         _ => b"no name\n",
     }
 }
 
 /// What `same` does.
-fn same_act(
-    alloc: Global,
-    names: &[Named],
-    left: NameId,
-    right: NameId,
-) -> Result<Act, NoMemory>
+fn same_act(alloc: Global, names: &[Named], left: NameId, right: NameId) -> Result<Act, NoMemory>
     ensures { IfOk result (IsAct names.now (SameActs (under_name names.now left) (under_name names.now right))) }
 {
     let line = same_line(find(names, left), find(names, right));

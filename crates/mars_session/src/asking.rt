@@ -8,8 +8,8 @@ ghost use Rattle.mars_session.specs.AskingInside.{event_seen, IsAsking, IsBegun,
 use crate::lines::{push_ending, push_told};
 use mars_answer::Answer;
 use mars_base::NoMemory;
-use mars_machine::{Ending, Stepped};
 use mars_canon::Tree;
+use mars_machine::{Ending, Stepped};
 use mars_rules::RuleBase;
 use mars_run::Machine;
 use mars_term::Ask;
@@ -35,13 +35,7 @@ fn is_enough(most: Option<u64>, answers: u64) -> bool
 }
 
 /// How an ask ends with so many answers and steps, where it ends.
-fn ending_at(
-    most: Option<u64>,
-    answers: u64,
-    left: bool,
-    steps: u64,
-    budget: u64,
-) -> Option<Ending>
+fn ending_at(most: Option<u64>, answers: u64, left: bool, steps: u64, budget: u64) -> Option<Ending>
     ensures { result ≡ ending_at most answers left steps budget }
 {
     if is_enough(most, answers) {

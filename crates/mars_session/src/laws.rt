@@ -1,5 +1,5 @@
 //! Laws of sessions, whole runs and schedules.
-ghost use Rattle.mars_session.specs.SessionLaws.{EventIsOne, AloneIsOne, AloneGrows, CallsAreAllowed, TextsGrow, AskWritesItsText};
+ghost use Rattle.mars_session.specs.SessionLaws.{EventIsOne, AloneIsOne, AloneGrows, CallsAreAllowed, TextsGrow, AskWritesItsText, EventsAdvance};
 ghost use Rattle.mars_session.specs.SessionRows.{SessionRows};
 ghost use Rattle.mars_session.specs.Together.{EventsKeepEntries, TogetherTheyAreWhole, UncutIsWhole};
 ghost use Rattle.mars_session.specs.WorldLaws.{PartsAreNumbered, HistoryIsASchedule, ScheduleIsWhole, OrderIsOne, ScheduleIsOne, WholeGoesOn};
@@ -32,6 +32,11 @@ pub fn texts_grow()
 /// The events of an ask write the ask's text.
 pub fn ask_writes_its_text()
     ensures { AskWritesItsText }
+{}
+
+/// Each event does a command, or a step more of its ask, which is less than the budget.
+pub fn events_advance()
+    ensures { EventsAdvance }
 {}
 
 /// The sessions of an input are numbered in order.

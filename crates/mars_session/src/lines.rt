@@ -43,11 +43,7 @@ fn push_handle(line: &mut Vec<u8>, handle: Handle) -> Result<(), NoMemory>
 }
 
 /// Writes the first line of a session.
-pub(crate) fn push_heading(
-    line: &mut Vec<u8>,
-    names: &Names,
-    name: NameId,
-) -> Result<(), NoMemory>
+pub(crate) fn push_heading(line: &mut Vec<u8>, names: &Names, name: NameId) -> Result<(), NoMemory>
     ensures { OnOk result (line.new.items ≡ line.old.items ++ heading_line names.now name) }
 {
     line.extend_from_slice(b"session ")?;
@@ -84,12 +80,7 @@ pub(crate) fn push_kept(
 }
 
 /// Writes the line of a table that is full.
-pub(crate) fn push_full(
-    line: &mut Vec<u8>,
-    rows: u64,
-    fresh: u64,
-    cap: u64,
-) -> Result<(), NoMemory>
+pub(crate) fn push_full(line: &mut Vec<u8>, rows: u64, fresh: u64, cap: u64) -> Result<(), NoMemory>
     ensures { OnOk result (line.new.items ≡ line.old.items ++ full_line rows fresh cap) }
 {
     line.extend_from_slice(b"full ")?;
@@ -138,11 +129,7 @@ pub(crate) fn push_shown(
 }
 
 /// Writes the line of a name that was dropped.
-pub(crate) fn push_dropped(
-    line: &mut Vec<u8>,
-    names: &Names,
-    name: NameId,
-) -> Result<(), NoMemory>
+pub(crate) fn push_dropped(line: &mut Vec<u8>, names: &Names, name: NameId) -> Result<(), NoMemory>
     ensures { OnOk result (line.new.items ≡ line.old.items ++ dropped_line names.now name) }
 {
     line.extend_from_slice(b"dropped ")?;
@@ -208,14 +195,7 @@ fn push_answer(
     line.extend_from_slice(b"answer ")?;
     push_number(line, number)?;
     line.extend_from_slice(b": ")?;
-    print_roots(
-        names,
-        &answer.canon,
-        vars,
-        answer.difs,
-        answer.frozen,
-        line,
-    )?;
+    print_roots(names, &answer.canon, vars, answer.difs, answer.frozen, line)?;
     line.extend_from_slice(b"\n")?;
     Ok(())
 }
@@ -255,11 +235,7 @@ fn ending_word(ending: Ending) -> &'static [u8]
 }
 
 /// Writes the last line of an ask, after so many steps.
-pub(crate) fn push_ending(
-    line: &mut Vec<u8>,
-    ending: Ending,
-    steps: u64,
-) -> Result<(), NoMemory>
+pub(crate) fn push_ending(line: &mut Vec<u8>, ending: Ending, steps: u64) -> Result<(), NoMemory>
     ensures { OnOk result (line.new.items ≡ line.old.items ++ ending_line ending steps) }
 {
     line.extend_from_slice(ending_word(ending))?;

@@ -183,12 +183,7 @@ impl<'a> Session<'a> {
     }
 
     /// Writes an event with which an ask goes on.
-    fn go_on(
-        &mut self,
-        ask: &'a Ask,
-        event: AskStepped,
-        asking: Asking<'a>,
-    ) -> Result<(), NoMemory>
+    fn go_on(&mut self, ask: &'a Ask, event: AskStepped, asking: Asking<'a>) -> Result<(), NoMemory>
         requires next { AsksNext self.old ask.now event }
         requires on { event.ends ≡ false }
         requires runs { RunsOn self.old ask.now asking }

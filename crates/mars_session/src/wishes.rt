@@ -49,12 +49,7 @@ pub(crate) fn wish_call(names: &[Named], wish: &Wish) -> Result<Call, NoMemory>
 }
 
 /// Writes the line of a reply to an intern.
-fn push_keep(
-    line: &mut Vec<u8>,
-    names: &Names,
-    name: NameId,
-    reply: &Reply,
-) -> Result<(), NoMemory>
+fn push_keep(line: &mut Vec<u8>, names: &Names, name: NameId, reply: &Reply) -> Result<(), NoMemory>
     ensures { OnOk result (line.new.items ≡ line.old.items ++ keep_line names.now name reply.now) }
 {
     match reply {

@@ -1,4 +1,4 @@
-use Rattle.std.proofs.Common.{◌≡◌, ap, sym, ◌∙◌, subst, inl}
+use Rattle.std.proofs.Common.{ap, sym, ◌∙◌, subst, inl}
 use Rattle.mars_session.specs.SessionSeen.{SessionSeen, HasMore, cut_session}
 use Rattle.mars_session.proofs.DoorLemmas.{has_more, takes_requires, cut_after_call, taken_at, taken_follows}
 use Rattle.mars_session.proofs.doors.event.Goals as goal
@@ -26,7 +26,7 @@ returns-in-Err-take-clause-follows g c =
     let old = c.args.door.now in
     let w = rw c.in-Ok-Wants.field-0-is at c.in-Ok-Wants.ensures.ok in
     cut_after_call (d.lone old) (d.cap c.call.new.self) c.args.session.now c.turn.new.self c.in-Ok-Wants.call c.in-Ok.reply (d.who old) (d.mine old) (d.seen old) (d.mine c.call.new.self) (d.seen c.call.new.self) w c.requires.number c.in-Ok.ensures.mine c.in-Ok.ensures.seen c.in-Ok.ensures.legal
-      c.cut-in-Err-take.new.self (c.cut-in-Err-take.ensures ∙ ap cut_session c.in-Err-take.ensures.err)
+    c.cut-in-Err-take.new.self (c.cut-in-Err-take.ensures ∙ ap cut_session c.in-Err-take.ensures.err)
 
 pub returns-in-Ok-take-clause-mine : goal.returns-in-Ok-take-clause-mine
 returns-in-Ok-take-clause-mine g c going =
@@ -34,7 +34,7 @@ returns-in-Ok-take-clause-mine g c going =
     let old = c.args.door.now in
     let w = rw c.in-Ok-Wants.field-0-is at c.in-Ok-Wants.ensures.ok in
     taken_at (d.lone old) (d.cap c.call.new.self) c.args.session.now c.turn.new.self c.in-Ok-Wants.call c.in-Ok.reply (d.who old) (d.mine old) (d.seen old) (d.mine c.call.new.self) (d.seen c.call.new.self) w c.requires.number c.in-Ok.ensures.mine c.in-Ok.ensures.seen c.in-Ok.ensures.legal
-      c.take.new.self c.in-Ok-take.ensures.ok c.requires.mine
+    c.take.new.self c.in-Ok-take.ensures.ok c.requires.mine
 
 pub returns-in-Ok-take-clause-follows : goal.returns-in-Ok-take-clause-follows
 returns-in-Ok-take-clause-follows g c =
@@ -42,4 +42,4 @@ returns-in-Ok-take-clause-follows g c =
     let old = c.args.door.now in
     let w = rw c.in-Ok-Wants.field-0-is at c.in-Ok-Wants.ensures.ok in
     taken_follows (d.lone old) (d.cap c.call.new.self) c.args.session.now c.turn.new.self c.in-Ok-Wants.call c.in-Ok.reply (d.who old) (d.mine old) (d.seen old) (d.mine c.call.new.self) (d.seen c.call.new.self) w c.requires.number c.in-Ok.ensures.mine c.in-Ok.ensures.seen c.in-Ok.ensures.legal
-      c.take.new.self c.in-Ok-take.ensures.ok
+    c.take.new.self c.in-Ok-take.ensures.ok

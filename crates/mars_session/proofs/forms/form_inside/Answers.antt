@@ -1,4 +1,4 @@
-use Rattle.std.proofs.Common.{◌≡◌, ℕ, ◌<◌, sym, subst, ap, ◌∙◌, length, arith, List}
+use Rattle.std.proofs.Common.{◌≡◌, ℕ, ◌<◌, sym, subst, ◌∙◌, length, List}
 use Rattle.std.proofs.lemmas.Bool.{false≢true}
 use Rattle.mars_tree.specs.Graph.{Node}
 use Rattle.mars_canon.specs.Canon.{IsCanon}

@@ -1,8 +1,8 @@
-use Rattle.std.proofs.Common.{◌≡◌, ◌∙◌, ap, sym, List, [], ◌∷◌, ◌++◌, drop, ◌+◌, arith, Some}
+use Rattle.std.proofs.Common.{◌∙◌, ap, sym, List, [], ◌∷◌, ◌++◌, drop, ◌+◌}
 use Rattle.std.proofs.lemmas.List.{drop_more}
 use Rattle.mars_tree.specs.Graph.{Node}
 use Rattle.mars_tree.specs.declared.label.NameId.{NameId}
-use Rattle.mars_session.specs.SessionPoints.{under_name, named_trees}
+use Rattle.mars_session.specs.SessionPoints.{named_trees}
 use Rattle.mars_session.proofs.Trees.{after_trees, trees_on, trees_stop}
 use Rattle.mars_session.proofs.maps.kept_trees.Goals as goal
 

@@ -1,4 +1,4 @@
-use Rattle.std.proofs.Common.{◌≡◌, ap, ◌∙◌, List, length}
+use Rattle.std.proofs.Common.{ap, ◌∙◌, List, length}
 use Rattle.mars_tree.specs.declared.label.NameId.{NameId}
 use Rattle.mars_tree.specs.Graph.{Node}
 use Rattle.mars_session.proofs.Turning.{trees_count}

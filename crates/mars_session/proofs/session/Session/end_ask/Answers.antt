@@ -1,10 +1,9 @@
-use Rattle.std.proofs.Common.{◌≡◌, refl, ap, sym, ◌∙◌, subst, ◌+◌, Bool, Option, Some, None}
+use Rattle.std.proofs.Common.{◌≡◌, refl, ap, sym, ◌∙◌, subst, ◌+◌, Option, Some, None}
 use Rattle.std.specs.Prelude.{true}
-use Rattle.mars_canon.specs.Canon.{Rooted}
 use Rattle.mars_answer.specs.declared.answers.Answer.{Answer}
 use Rattle.mars_session.specs.declared.session.Session.TheInside.{Inside}
-use Rattle.mars_session.specs.TextSeen.{TextSeen, text_with, text_done}
-use Rattle.mars_session.specs.SessionEvents.{IsEvent, stepped_by, later_answer}
+use Rattle.mars_session.specs.TextSeen.{text_with, text_done}
+use Rattle.mars_session.specs.SessionEvents.{stepped_by, later_answer}
 use Rattle.mars_session.specs.SessionSeen.{SessionSeen, MovesOn}
 use Rattle.mars_session.specs.AskingInside.{event_seen, canon_of}
 use Rattle.mars_session.specs.NextInside.{AsksNext}
@@ -23,8 +22,14 @@ invariant_of-self-2 c =
     let answer : canon_of c.later.result ≡ later_answer (canon_of p.answer) (canon_of e.answer) = c.later.ensures ∙ ap (λ (o : Option Answer). later_answer (canon_of o) (canon_of e.answer)) c.take-earlier.ensures.value in
     let none : canon_of c.take-earlier.new.self ≡ None = ap canon_of c.take-earlier.ensures.after in
     let to : point_in q ≡ stepped_by true ask.vars (event_seen e) (point_in p) = λ i. record {
-      done = one_on p.done i; steps = 0; answer = none i; names = p.map.items; latest = Some (record { vars = c.as_slice.ensures i; answer = answer i }); mine = p.mine.items;
-      before = (text i).before; present = (text i).present;
+      done = one_on p.done i;
+      steps = 0;
+      answer = none i;
+      names = p.map.items;
+      latest = Some (record { vars = c.as_slice.ensures i; answer = answer i });
+      mine = p.mine.items;
+      before = (text i).before;
+      present = (text i).present;
     } in
     kept_done q (reached_on (part_in p) (point_in p) (point_in q) c.self.invariant.reached (ask_ended p q ask e next c.requires.ends to)) c.self.invariant.asks refl refl
 
@@ -39,10 +44,18 @@ returns-clause-ok c =
     let answer : canon_of c.later.result ≡ later_answer (canon_of p.answer) (canon_of e.answer) = c.later.ensures ∙ ap (λ (o : Option Answer). later_answer (canon_of o) (canon_of e.answer)) c.take-earlier.ensures.value in
     let none : canon_of c.take-earlier.new.self ≡ None = ap canon_of c.take-earlier.ensures.after in
     let to : point_in q ≡ stepped_by true ask.vars (event_seen e) (point_in p) = λ i. record {
-      done = one_on p.done i; steps = 0; answer = none i; names = p.map.items; latest = Some (record { vars = c.as_slice.ensures i; answer = answer i }); mine = p.mine.items;
-      before = (text i).before; present = (text i).present;
+      done = one_on p.done i;
+      steps = 0;
+      answer = none i;
+      names = p.map.items;
+      latest = Some (record { vars = c.as_slice.ensures i; answer = answer i });
+      mine = p.mine.items;
+      before = (text i).before;
+      present = (text i).present;
     } in
     subst (λ (s : SessionSeen). MovesOn s (seen_in q)) c.self.view_is (record {
-      going = next.going; stays = λ i. record { part = part_in p; point = point_in q; cut = (text i).cut };
-      event = ask_ended p q ask e next c.requires.ends to; none = refl;
+      going = next.going;
+      stays = λ i. record { part = part_in p; point = point_in q; cut = (text i).cut };
+      event = ask_ended p q ask e next c.requires.ends to;
+      none = refl;
     })

@@ -1,13 +1,12 @@
-use Rattle.std.proofs.Common.{◌≡◌, ℕ, ◌+◌, refl, ap, sym, ◌∙◌, subst, List, [], ◌∷◌, ◌++◌, Option, Some, None}
+use Rattle.std.proofs.Common.{◌≡◌, ◌+◌, refl, ap, sym, ◌∙◌, subst, List, [], ◌∷◌, ◌++◌, None}
 use Rattle.mars_table.specs.declared.entry.Call.{Call}
-use Rattle.mars_table.specs.declared.entry.Entry.{Entry}
 use Rattle.mars_table.specs.History.{call_entry}
 use Rattle.mars_session.specs.declared.named.Named.{Named}
 use Rattle.mars_session.specs.declared.session.Session.TheInside.{Inside}
-use Rattle.mars_session.specs.TextSeen.{TextSeen, text_with, text_done}
+use Rattle.mars_session.specs.TextSeen.{text_with, text_done}
 use Rattle.mars_session.specs.CommandActs.{Uses, AnswersCall, call_of, use_line, names_after}
 use Rattle.mars_session.specs.SessionEvents.{IsEvent, WantsCall, answered}
-use Rattle.mars_session.specs.SessionSeen.{SessionSeen, TakesReply, at_point}
+use Rattle.mars_session.specs.SessionSeen.{SessionSeen, TakesReply}
 use Rattle.mars_session.specs.WishesInside.{IsWish, IsOutcome, changed}
 use Rattle.mars_session.specs.NextInside.{IsPending, WantsReply}
 use Rattle.mars_session.specs.SessionInside.{part_in, point_in, seen_in}
@@ -26,10 +25,16 @@ invariant_of-self-2 c =
     let text : c.end.new.self ≡ text_done (text_with p.text (use_line p.names.now n.wanted c.args.reply)) = c.end.ensures ∙ ap text_done (c.in_ok-push.ensures.ok ∙ ap (text_with p.text) (c.deref-2.ensures.value ∙ out.line)) in
     let names : c.change_names.new.map.items ≡ names_after p.map.items n.wanted c.args.reply = c.change_names.ensures ∙ ap (λ (l : List Named). changed l o.change) c.in_ok-reserve.ensures.items ∙ sym out.names_are in
     let mine : c.push_reserved.new.self.items ≡ p.mine.items ++ call_entry p.who (call_of n.wanted) c.args.reply ∷ [] =
-      c.push_reserved.ensures.items ∙ (λ i. c.in_ok-reserve-2.ensures.items i ++ call_entry p.who (out.call i) c.args.reply ∷ []) in
+    c.push_reserved.ensures.items ∙ (λ i. c.in_ok-reserve-2.ensures.items i ++ call_entry p.who (out.call i) c.args.reply ∷ []) in
     let to : point_in q ≡ answered (part_in p) n.wanted c.args.reply (point_in p) = λ i. record {
-      done = one_on p.done i; steps = 0; answer = None; names = names i; latest = (point_in p).latest; mine = mine i;
-      before = (text i).before; present = (text i).present;
+      done = one_on p.done i;
+      steps = 0;
+      answer = None;
+      names = names i;
+      latest = (point_in p).latest;
+      mine = mine i;
+      before = (text i).before;
+      present = (text i).present;
     } in
     let asked : WantsReply (seen_in p) c.args.reply = subst (λ (s : SessionSeen). WantsReply s c.args.reply) (sym c.self.view_is) c.requires in
     let same : asked.0 ≡ call_of n.wanted = wants_one (part_in p) (point_in p) asked.0 (call_of n.wanted) asked.1.wants (record { command = n.command; is_next = n.is_next; wish = n.wanted; acts = n.acts; call_is = refl }) in
@@ -48,10 +53,16 @@ returns-clause-ok c call w =
     let text : c.end.new.self ≡ text_done (text_with p.text (use_line p.names.now n.wanted c.args.reply)) = c.end.ensures ∙ ap text_done (c.in_ok-push.ensures.ok ∙ ap (text_with p.text) (c.deref-2.ensures.value ∙ out.line)) in
     let names : c.change_names.new.map.items ≡ names_after p.map.items n.wanted c.args.reply = c.change_names.ensures ∙ ap (λ (l : List Named). changed l o.change) c.in_ok-reserve.ensures.items ∙ sym out.names_are in
     let mine : c.push_reserved.new.self.items ≡ p.mine.items ++ call_entry p.who (call_of n.wanted) c.args.reply ∷ [] =
-      c.push_reserved.ensures.items ∙ (λ i. c.in_ok-reserve-2.ensures.items i ++ call_entry p.who (out.call i) c.args.reply ∷ []) in
+    c.push_reserved.ensures.items ∙ (λ i. c.in_ok-reserve-2.ensures.items i ++ call_entry p.who (out.call i) c.args.reply ∷ []) in
     let to : point_in q ≡ answered (part_in p) n.wanted c.args.reply (point_in p) = λ i. record {
-      done = one_on p.done i; steps = 0; answer = None; names = names i; latest = (point_in p).latest; mine = mine i;
-      before = (text i).before; present = (text i).present;
+      done = one_on p.done i;
+      steps = 0;
+      answer = None;
+      names = names i;
+      latest = (point_in p).latest;
+      mine = mine i;
+      before = (text i).before;
+      present = (text i).present;
     } in
     let asked : WantsReply (seen_in p) c.args.reply = subst (λ (s : SessionSeen). WantsReply s c.args.reply) (sym c.self.view_is) c.requires in
     let w' : WantsCall (part_in p) (point_in p) call = subst (λ (s : SessionSeen). WantsCall s.part s.point call) (sym c.self.view_is) w in

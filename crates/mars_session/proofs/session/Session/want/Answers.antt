@@ -1,9 +1,8 @@
-use Rattle.std.proofs.Common.{◌≡◌, refl, ap, sym, ◌∙◌, subst, List}
+use Rattle.std.proofs.Common.{ap, sym, ◌∙◌, subst, List}
 use Rattle.mars_session.specs.declared.named.Named.{Named}
 use Rattle.mars_session.specs.WishesInside.{IsWish}
 use Rattle.mars_session.specs.SessionEvents.{WantsCall, ReachesPoint}
 use Rattle.mars_session.specs.SessionSeen.{SessionSeen}
-use Rattle.mars_session.specs.SessionInside.{seen_in}
 use Rattle.mars_session.proofs.Handles.{calls_are_allowed}
 use Rattle.mars_session.proofs.session.Session.want.Goals as goal
 
@@ -14,6 +13,7 @@ returns-clause-ok c =
     let stands : IsWish c.deref.result.now c.args.wish n.wanted = subst (λ (l : List Named). IsWish l c.args.wish n.wanted) (sym (c.deref.ensures.value ∙ ap (λ (s : SessionSeen). s.point.names) c.self.view_is)) n.stands in
     let wants : WantsCall s.part s.point c.in_ok-call.call = record { command = n.command; is_next = n.is_next; wish = n.wanted; acts = n.acts; call_is = c.in_ok-call.ensures n.wanted stands } in
     record {
-      going = c.requires.going; wants = wants;
+      going = c.requires.going;
+      wants = wants;
       may = calls_are_allowed s.part s.point c.in_ok-call.call (subst (λ (s : SessionSeen). ReachesPoint s.part s.point) c.self.view_is c.self.invariant.reached) wants;
     }
