@@ -54,7 +54,10 @@ fn write_small<R: Print + AllocGlobal>(rt: &R) -> io::Result<()> {
 /// Writes the counts of a run.
 fn write_counts<R: Print + AllocGlobal>(rt: &R, kind: Kind, size: u64) -> io::Result<()> {
     let counts = counts_of(rt.alloc(), kind, size).map_err(no_memory)?;
-    println!(rt; "{kind:?} {size}: {} steps, {} answers", counts.steps, counts.answers)
+    println!(rt;
+        "{kind:?} {size}: {} steps, {} answers",
+        counts.steps, counts.answers
+    )
 }
 
 /// Writes the counts of a run, and the nanoseconds of a step.

@@ -2,7 +2,7 @@
 use Rattle.std.proofs.Common.{◌≡◌, List, [], ◌∷◌, ◌++◌, sym, ap, ◌∙◌, inl, inr}
 use Rattle.std.specs.Prelude.{Bool, true, false}
 use Rattle.mars_table.specs.declared.entry.Entry.{Entry}
-use Rattle.mars_gate.specs.Jobs.{JobSeen, MatchesUnlessCut, Advances, JobCallsNothing, JobTakesReply, JobLosesReply, MatchesEntries}
+use Rattle.mars_gate.specs.Jobs.{JobSeen, MatchesUnlessCut, JobAdvances, JobCallsNothing, JobTakesReply, JobLosesReply, MatchesEntries}
 
 never_both : (b : Bool) → b ≡ true → b ≡ false → ⊥
 never_both b t f = cc (t, f)
@@ -28,12 +28,12 @@ module _ (lone : Bool) (lacks lacked : Entry → Type 0) (old : JobSeen) (mine s
     cut = λ _. inr (c.entry, c.lacking, c.made ∙ ap (λ (l : List Entry). l ++ c.entry ∷ []) (made.going going ∙ sym c.calls));
   }
 
-  pub went_on : Advances lone lacks old mine seen new mine_after seen_after → MatchesEntries lacks new mine_after
+  pub went_on : JobAdvances lone lacks old mine seen new mine_after seen_after → MatchesEntries lacks new mine_after
   went_on a = elim a.does [ inl c ↦ called_nothing c | inr d ↦ elim d [ inl c ↦ took_reply c | inr c ↦ lost_reply c ] ]
 
 -- of a job that was cut before the event the entries stay
 pub stayed : (lone : Bool) (lacks : Entry → Type 0) (old : JobSeen) (mine seen : List Entry) (new : JobSeen) (mine_after seen_after : List Entry) → old.cut ≡ true
-    → Advances lone lacks old mine seen new mine_after seen_after → mine_after ≡ mine
+    → JobAdvances lone lacks old mine seen new mine_after seen_after → mine_after ≡ mine
 stayed lone lacks old mine seen new mine_after seen_after cut a = elim a.does [
   | inl c ↦ c.made
   | inr d ↦ elim d [ inl c ↦ absurd (never_both old.cut cut c.going.0) | inr c ↦ absurd (never_both old.cut cut c.going) ]

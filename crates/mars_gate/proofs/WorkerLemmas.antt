@@ -6,7 +6,7 @@ use Rattle.mars_book.specs.declared.book.Book.{Book}
 use Rattle.mars_book.specs.PassSeen.{PassSeen}
 use Rattle.mars_book.specs.Books.{IsPassOf}
 use Rattle.mars_book.specs.Stays.{SamePass, same_pass, same_on}
-use Rattle.mars_gate.specs.Jobs.{JobSeen, MatchesEntries, Advances}
+use Rattle.mars_gate.specs.Jobs.{JobSeen, MatchesEntries, JobAdvances}
 use Rattle.mars_gate.specs.WorkersInside.{IsWorker, KeepsWork}
 use Rattle.mars_gate.proofs.EntryLemmas.{went_on, stayed}
 
@@ -19,7 +19,7 @@ module _ {J : Type 0} (job : J → JobSeen) (lacks : J → Entry → Type 0) (la
   of_same book pass pass' same of = record { turn = same.turn ∙ of.turn; limit = same.fixed ∙ of.limit }
 
   entries_after : (lone : Bool) (j j' : J) (mine seen mine' seen' : List Entry) → MatchesEntries (lacks j) (job j) mine → ((job j).cut ≡ true → j' ≡ j)
-      → Advances lone (lacks j') (job j) mine seen (job j') mine' seen' → MatchesEntries (lacks j') (job j') mine'
+      → JobAdvances lone (lacks j') (job j) mine seen (job j') mine' seen' → MatchesEntries (lacks j') (job j') mine'
   entries_after lone j j' mine seen mine' seen' fits cut a = elim (true_or_false (job j).cut) [
     | inl t ↦ subst (λ (k : J). MatchesEntries (lacks k) (job k) mine') (sym (cut t))
         (subst (λ (l : List Entry). MatchesEntries (lacks j) (job j) l) (sym (stayed lone (lacks j') (job j) mine seen (job j') mine' seen' t a)) fits)
@@ -28,7 +28,7 @@ module _ {J : Type 0} (job : J → JobSeen) (lacks : J → Entry → Type 0) (la
 
   -- after an event
   pub kept_work : (book : Book) (lone : Bool) (j : J) (pass : PassSeen) (j' : J) (pass' : PassSeen) → IsWorker job lacks later book j pass → SamePass pass pass' → later j j'
-      → ((job j).cut ≡ true → j' ≡ j) → Advances lone (lacks j') (job j) pass.view.mine pass.view.seen (job j') pass'.view.mine pass'.view.seen
+      → ((job j).cut ≡ true → j' ≡ j) → JobAdvances lone (lacks j') (job j) pass.view.mine pass.view.seen (job j') pass'.view.mine pass'.view.seen
       → KeepsWork job lacks later book j pass j' pass'
   kept_work book lone j pass j' pass' w same goes cut a = record {
     worker = record {

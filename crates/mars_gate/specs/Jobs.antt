@@ -41,7 +41,7 @@ pub record JobLosesReply (lone : Bool) (lacks : Entry → Type 0) (old : JobSeen
   pub sees : SeesMore lone seen seen_after entry
 
 -- what an event is: of the door's entries and history no more changes than one call of the job
-pub record Advances (lone : Bool) (lacks : Entry → Type 0) (old : JobSeen) (mine seen : List Entry) (new : JobSeen) (mine_after seen_after : List Entry) : Type 0 where
+pub record JobAdvances (lone : Bool) (lacks : Entry → Type 0) (old : JobSeen) (mine seen : List Entry) (new : JobSeen) (mine_after seen_after : List Entry) : Type 0 where
   pub number : new.number ≡ old.number
   pub does : JobCallsNothing old mine seen new mine_after seen_after
       ⊎ (JobTakesReply lone old mine seen new mine_after seen_after

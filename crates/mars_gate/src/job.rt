@@ -1,7 +1,7 @@
 //! Jobs: what runs in a thread and calls the table over a door.
 ghost use Rattle.std.specs.Prelude.{◌≡◌, true};
 ghost use Rattle.mars_table.specs.declared.entry.Entry.{Entry};
-ghost use Rattle.mars_gate.specs.Jobs.{JobSeen, MatchesUnlessCut, Advances};
+ghost use Rattle.mars_gate.specs.Jobs.{JobSeen, MatchesUnlessCut, JobAdvances};
 
 use mars_table::Door;
 
@@ -35,7 +35,7 @@ pub trait Job {
         ensures stays { D.Stays door.old door.new }
         ensures who { D.who door.new ≡ D.who door.old }
         ensures cap { D.cap door.new ≡ D.cap door.old }
-        ensures advances { Advances (D.lone door.old) (Lacks self.new) (job self.old) (D.mine door.old) (D.seen door.old) (job self.new) (D.mine door.new) (D.seen door.new) }
+        ensures advances { JobAdvances (D.lone door.old) (Lacks self.new) (job self.old) (D.mine door.old) (D.seen door.old) (job self.new) (D.mine door.new) (D.seen door.new) }
         ensures later { Later self.old self.new }
         ensures cut { (job self.old).cut ≡ true → self.new ≡ self.old }
         ensures done { result ≡ Advance.Done → IsDone self.new × (self.new ≡ self.old) };

@@ -34,9 +34,9 @@ use Rattle.mars_bridge.specs.Scoped.{PairUsesBelow}
 use Rattle.mars_bridge.proofs.Carried.{implied_iff, solvable_iff}
 use Rattle.mars_bridge.proofs.Parts.{root_iff}
 use Rattle.mars_memory.specs.Memory.{MemoryParts, root_of_node, IsLaterMemory}
-use Rattle.mars_memory.specs.Holding.{Holds}
+use Rattle.mars_memory.specs.Holding.{HoldsAlternative}
 use Rattle.mars_memory.specs.Holding.DenoteGoals.{calls}
-use Rattle.mars_memory.specs.Found.{HoldsCall, HasCall, IsCallOf, IsDone}
+use Rattle.mars_memory.specs.Found.{HoldsCall, HasCall, IsCallOf, IsBuiltInDone}
 use Rattle.mars_memory.proofs.Marks.{later-memory}
 use Rattle.mars_memory.proofs.Calls.{put-goals, held-call, held-argument, gone-on}
 
@@ -48,7 +48,7 @@ kid_is m node place kid = slice_get (kids_of m.system.nodes (resolve m.system.bo
 pub done-plainly : (m : MemoryParts) (node rest : ℕ) (built_in : BuiltIn) → HasCall m node rest
     → ((asked : List ℕ) (groups : List (List Alternative)) (parent : Alternative) (call : Subject) (others : List OpenGoal) → HoldsCall asked m groups node rest parent call others
     → IsBuiltInChild parent call others built_in (record parent { goals = others }))
-    → IsDone m node rest built_in m (Some rest)
+    → IsBuiltInDone m node rest built_in m (Some rest)
 done-plainly m node rest built_in has is = (
   later-memory m,
   has.is_call.inside,
@@ -75,40 +75,40 @@ module _ (m : MemoryParts) (node rest kid : ℕ) (label : Label) (is : label_of 
   unknown-first root k = none-some k.0 (root ∙ first-forced k.0 k.1)
 
 module _ (m : MemoryParts) (node rest kid : ℕ) (has : HasCall m node rest) (at : kid_is m node 0 kid) where
-  pub bound-known : IsCallOf m node Bound → (own : Label) → Some own ≡ root_of_node m.system kid → IsDone m node rest Bound m (Some rest)
+  pub bound-known : IsCallOf m node Bound → (own : Label) → Some own ≡ root_of_node m.system kid → IsBuiltInDone m node rest Bound m (Some rest)
   bound-known is own root = done-plainly m node rest Bound has
       (λ asked groups parent call others h. bound (known-first m node rest kid (built_in_label Bound) is at asked groups parent call others h own root))
 
-  pub bound-unknown : IsCallOf m node Bound → None ≡ root_of_node m.system kid → IsDone m node rest Bound m None
+  pub bound-unknown : IsCallOf m node Bound → None ≡ root_of_node m.system kid → IsBuiltInDone m node rest Bound m None
   bound-unknown is root = (later-memory m, λ asked groups parent call others h child c. no asked groups parent call others h child c)
     where
       no : (asked : List ℕ) (groups : List (List Alternative)) (parent : Alternative) (call : Subject) (others : List OpenGoal) → HoldsCall asked m groups node rest parent call others
           → (child : Alternative) → IsBuiltInChild parent call others Bound child → ⊥
       no asked groups parent call others h child (bound k) = unknown-first m node rest kid (built_in_label Bound) is at asked groups parent call others h root k
 
-  pub free-unknown : IsCallOf m node Free → None ≡ root_of_node m.system kid → IsDone m node rest Free m (Some rest)
+  pub free-unknown : IsCallOf m node Free → None ≡ root_of_node m.system kid → IsBuiltInDone m node rest Free m (Some rest)
   free-unknown is root = done-plainly m node rest Free has
       (λ asked groups parent call others h. free (unknown-first m node rest kid (built_in_label Free) is at asked groups parent call others h root))
 
-  pub free-known : IsCallOf m node Free → (own : Label) → Some own ≡ root_of_node m.system kid → IsDone m node rest Free m None
+  pub free-known : IsCallOf m node Free → (own : Label) → Some own ≡ root_of_node m.system kid → IsBuiltInDone m node rest Free m None
   free-known is own root = (later-memory m, λ asked groups parent call others h child c. no asked groups parent call others h child c)
     where
       no : (asked : List ℕ) (groups : List (List Alternative)) (parent : Alternative) (call : Subject) (others : List OpenGoal) → HoldsCall asked m groups node rest parent call others
           → (child : Alternative) → IsBuiltInChild parent call others Free child → ⊥
       no asked groups parent call others h child (free n) = n (known-first m node rest kid (built_in_label Free) is at asked groups parent call others h own root)
 
-  pub text-done : IsCallOf m node OutText → (string : NameId) → root_of_node m.system kid ≡ Some (Str string) → IsDone m node rest OutText m (Some rest)
+  pub text-done : IsCallOf m node OutText → (string : NameId) → root_of_node m.system kid ≡ Some (Str string) → IsBuiltInDone m node rest OutText m (Some rest)
   text-done is string root = done-plainly m node rest OutText has
       (λ asked groups parent call others h. out_text {string = string} (forced-first m node rest kid (built_in_label OutText) is at asked groups parent call others h (Str string) root))
 
-  pub text-none : IsCallOf m node OutText → ((string : NameId) → root_of_node m.system kid ≡ Some (Str string) → ⊥) → IsDone m node rest OutText m None
+  pub text-none : IsCallOf m node OutText → ((string : NameId) → root_of_node m.system kid ≡ Some (Str string) → ⊥) → IsBuiltInDone m node rest OutText m None
   text-none is none = (later-memory m, λ asked groups parent call others h child c. no asked groups parent call others h child c)
     where
       no : (asked : List ℕ) (groups : List (List Alternative)) (parent : Alternative) (call : Subject) (others : List OpenGoal) → HoldsCall asked m groups node rest parent call others
           → (child : Alternative) → IsBuiltInChild parent call others OutText child → ⊥
       no asked groups parent call others h child (out_text {string = string} f) = none string (first-forced m node rest kid (built_in_label OutText) is at asked groups parent call others h (Str string) f)
 
-pub out-done : (m : MemoryParts) (node rest : ℕ) → HasCall m node rest → IsDone m node rest Out m (Some rest)
+pub out-done : (m : MemoryParts) (node rest : ℕ) → HasCall m node rest → IsBuiltInDone m node rest Out m (Some rest)
 out-done m node rest has = done-plainly m node rest Out has (λ asked groups parent call others h. out)
 
 -- what is held of a call of two arguments, which are these nodes
@@ -143,7 +143,7 @@ list-last lists goals = get_or-append_seam lists goals [] []
 
 module _ (m : MemoryParts) (node rest left right : ℕ) (has : HasCall m node rest) (is : IsCallOf m node Freeze) (at_left : kid_is m node 0 left) (at_right : kid_is m node 1 right) where
   freeze-called : (own : Label) → Some own ≡ root_of_node m.system left → (list : ℕ) → list ≡ length m.lists
-      → IsDone m node rest Freeze (with_list m (pending.Call right ∷ list_at m.lists rest)) (Some list)
+      → IsBuiltInDone m node rest Freeze (with_list m (pending.Call right ∷ list_at m.lists rest)) (Some list)
   freeze-called own root list e = (
     later-list m (pending.Call right ∷ list_at m.lists rest),
     omega (arith, e, length-append m.lists ((pending.Call right ∷ list_at m.lists rest) ∷ [])),
@@ -154,17 +154,17 @@ module _ (m : MemoryParts) (node rest left right : ℕ) (has : HasCall m node re
         record {
           child = record parent { goals = Call (Part call 1) ∷ others };
           is_child = called (known-first m node rest left (built_in_label Freeze) is at_left asked groups parent call others h own root);
-          holds = subst (λ goals. Holds asked (with_list m new) groups goals (record parent { goals = Call (Part call 1) ∷ others })) (sym (ap (list_at (m.lists ++ new ∷ [])) e ∙ list-last m.lists new))
+          holds = subst (λ goals. HoldsAlternative asked (with_list m new) groups goals (record parent { goals = Call (Part call 1) ∷ others })) (sym (ap (list_at (m.lists ++ new ∷ [])) e ∙ list-last m.lists new))
               (put-goals asked m groups (pending.Call node ∷ list_at m.lists rest) parent h.holds (m.lists ++ new ∷ []) new (Call (Part call 1) ∷ others) (calls both.second d.uses d.others_are));
         },
   )
 
   pub freeze-known : (own : Label) → Some own ≡ root_of_node m.system left → (list : ℕ) → list ≡ length m.lists
-      → (new : MemoryParts) → new ≡ with_list m (pending.Call right ∷ list_at m.lists rest) → IsDone m node rest Freeze new (Some list)
-  freeze-known own root list e new is_new = subst (λ n. IsDone m node rest Freeze n (Some list)) (sym is_new) (freeze-called own root list e)
+      → (new : MemoryParts) → new ≡ with_list m (pending.Call right ∷ list_at m.lists rest) → IsBuiltInDone m node rest Freeze new (Some list)
+  freeze-known own root list e new is_new = subst (λ n. IsBuiltInDone m node rest Freeze n (Some list)) (sym is_new) (freeze-called own root list e)
 
   freeze-frozen : IsLaterFrozen m.frozen (with_frozen m.frozen (left, right)) → None ≡ root_of_node m.system left
-      → IsDone m node rest Freeze (record m { frozen = with_frozen m.frozen (left, right) }) (Some rest)
+      → IsBuiltInDone m node rest Freeze (record m { frozen = with_frozen m.frozen (left, right) }) (Some rest)
   freeze-frozen later root = (
     record { system = grows-refl m.system; difs = after-same m.difs; frozen = later; more = omega arith; lists = take_all (length m.lists) m.lists (omega arith) },
     has.is_call.inside,
@@ -200,9 +200,9 @@ module _ (m : MemoryParts) (node rest left right : ℕ) (has : HasCall m node re
   )
 
   pub freeze-unknown : None ≡ root_of_node m.system left → (new : MemoryParts) → new ≡ record m { frozen = with_frozen m.frozen (left, right) } → IsLaterFrozen m.frozen new.frozen
-      → IsDone m node rest Freeze new (Some rest)
+      → IsBuiltInDone m node rest Freeze new (Some rest)
   freeze-unknown root new e later =
-      subst (λ n. IsDone m node rest Freeze n (Some rest)) (sym e) (freeze-frozen (subst (IsLaterFrozen m.frozen) (ap (λ (n : MemoryParts). n.frozen) e) later) root)
+      subst (λ n. IsBuiltInDone m node rest Freeze n (Some rest)) (sym e) (freeze-frozen (subst (IsLaterFrozen m.frozen) (ap (λ (n : MemoryParts). n.frozen) e) later) root)
 
 -- pairs that denote pairs are nodes of the system
 pub pairs-inside : (e : Equations) (system : System) (vars : List ℕ) (nodes : List (ℕ × ℕ)) (pairs : List (Subject × Subject)) → DenotePairs e system vars nodes pairs
@@ -230,8 +230,8 @@ with-told dif.Waits h added pair = refl
 with-told dif.Fails h added pair = absurd (h refl)
 
 module _ (m : MemoryParts) (node rest left right : ℕ) (has : HasCall m node rest) (is : IsCallOf m node DifCall) (at_left : kid_is m node 0 left) (at_right : kid_is m node 1 right) where
-  pub dif-fails : IsTold dif.Fails m.system left right → (new : MemoryParts) → new ≡ record m { difs = new.difs } → IsAfter m.difs new.difs → IsDone m node rest DifCall new None
-  dif-fails told new e later = subst (λ n. IsDone m node rest DifCall n None) (sym e) (
+  pub dif-fails : IsTold dif.Fails m.system left right → (new : MemoryParts) → new ≡ record m { difs = new.difs } → IsAfter m.difs new.difs → IsBuiltInDone m node rest DifCall new None
+  dif-fails told new e later = subst (λ n. IsBuiltInDone m node rest DifCall n None) (sym e) (
     record { system = grows-refl m.system; difs = later; frozen = later-all m.frozen; more = omega arith; lists = take_all (length m.lists) m.lists (omega arith) },
     λ asked groups parent call others h child c. no asked groups parent call others h child c,
   )
@@ -246,7 +246,7 @@ module _ (m : MemoryParts) (node rest left right : ℕ) (has : HasCall m node re
           (implied k.v k.solves)
 
   dif-added : (told : Dif) → told ≢ dif.Fails → IsTold told m.system left right → (new : Kept) → IsAfter m.difs new
-      → ((added : List (ℕ × ℕ)) → IsKeeper m.difs m.system added → IsCurrent new m.system (with_dif told added (left, right))) → IsDone m node rest DifCall (record m { difs = new }) (Some rest)
+      → ((added : List (ℕ × ℕ)) → IsKeeper m.difs m.system added → IsCurrent new m.system (with_dif told added (left, right))) → IsBuiltInDone m node rest DifCall (record m { difs = new }) (Some rest)
   dif-added told ne tells new later current = (
     record { system = grows-refl m.system; difs = later; frozen = later-all m.frozen; more = omega arith; lists = take_all (length m.lists) m.lists (omega arith) },
     has.is_call.inside,
@@ -283,5 +283,5 @@ module _ (m : MemoryParts) (node rest left right : ℕ) (has : HasCall m node re
   )
 
   pub dif-goes : (told : Dif) → told ≢ dif.Fails → IsTold told m.system left right → (new : MemoryParts) → new ≡ record m { difs = new.difs } → IsAfter m.difs new.difs
-      → ((added : List (ℕ × ℕ)) → IsKeeper m.difs m.system added → IsCurrent new.difs m.system (with_dif told added (left, right))) → IsDone m node rest DifCall new (Some rest)
-  dif-goes told ne tells new e later current = subst (λ n. IsDone m node rest DifCall n (Some rest)) (sym e) (dif-added told ne tells new.difs later current)
+      → ((added : List (ℕ × ℕ)) → IsKeeper m.difs m.system added → IsCurrent new.difs m.system (with_dif told added (left, right))) → IsBuiltInDone m node rest DifCall new (Some rest)
+  dif-goes told ne tells new e later current = subst (λ n. IsBuiltInDone m node rest DifCall n (Some rest)) (sym e) (dif-added told ne tells new.difs later current)

@@ -15,7 +15,7 @@ use Rattle.mars_bridge.specs.Represents.{Denotes}
 use Rattle.mars_bridge.specs.Scoped.{UsesBelow}
 use Rattle.mars_bridge.proofs.Parts.{part_denoted}
 use Rattle.mars_memory.specs.Memory.{MemoryParts}
-use Rattle.mars_memory.specs.Holding.{DenoteGoals, Holds}
+use Rattle.mars_memory.specs.Holding.{DenoteGoals, HoldsAlternative}
 use Rattle.mars_memory.specs.Holding.DenoteGoals.{calls}
 use Rattle.mars_memory.specs.Found.{HoldsCall, HasCall, IsCallOf}
 
@@ -30,9 +30,9 @@ call-denoted : (e : Equations) (system : System) (vars : List ℕ) (groups : Lis
 call-denoted e system vars groups limit node more call others (calls d u rest) = record { call_is = d; uses = u; others_are = rest }
 
 -- an alternative that is held is so with other goals, which are denoted, whatever goal lists there are
-abbrev pub put-goals : (asked : List ℕ) (m : MemoryParts) (groups : List (List Alternative)) (goals : List Pending) (a : Alternative) (h : Holds asked m groups goals a)
+abbrev pub put-goals : (asked : List ℕ) (m : MemoryParts) (groups : List (List Alternative)) (goals : List Pending) (a : Alternative) (h : HoldsAlternative asked m groups goals a)
     → (lists : List (List Pending)) (new : List Pending) (opens : List OpenGoal) → DenoteGoals a.equations m.system (h.writes.vars) groups (length groups) new opens
-    → Holds asked (record m { lists = lists }) groups new (record a { goals = opens })
+    → HoldsAlternative asked (record m { lists = lists }) groups new (record a { goals = opens })
 put-goals asked m groups goals a h lists new opens are = let w = h.writes in record {
   writes = record {
     sound = w.sound;
@@ -66,7 +66,7 @@ module _ (asked : List ℕ) (m : MemoryParts) (groups : List (List Alternative))
       part_denoted parent.equations m.system (h.holds.writes.vars) (h.holds.writes.represents) (h.holds.writes.sound) node call (held-call.call_is) label is place kid at
 
   -- the call is done, and nothing else changed
-  abbrev pub gone-on : Holds asked m groups (list_at m.lists rest) (record parent { goals = others })
+  abbrev pub gone-on : HoldsAlternative asked m groups (list_at m.lists rest) (record parent { goals = others })
   gone-on = put-goals asked m groups (pending.Call node ∷ list_at m.lists rest) parent h.holds m.lists (list_at m.lists rest) others held-call.others_are
 
 -- a call is a node of the memory, and the list after it one of its lists

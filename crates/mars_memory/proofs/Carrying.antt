@@ -19,7 +19,7 @@ use Rattle.mars_bridge.specs.Scoped.{UsesBelow, PairUsesBelow, IsScoped}
 use Rattle.mars_bridge.proofs.Building.{uses_more, uses_renamed}
 use Rattle.mars_children.proofs.Offspring.{keep-pairs}
 use Rattle.mars_memory.specs.Memory.{MemoryParts}
-use Rattle.mars_memory.specs.Holding.{DenoteGoals, Writes}
+use Rattle.mars_memory.specs.Holding.{DenoteGoals, WritesAlternative}
 use Rattle.mars_memory.specs.Holding.DenoteGoals.{none, calls, cuts}
 
 -- a variable of an ask is one of those in use
@@ -71,9 +71,9 @@ module _ (old new : MemoryParts) (e f : Equations) (vars all : List ℕ) (c : Ca
   keep_goals groups limit goals opens (cuts {depth = depth} {more = more} {goals = others} few is rest) = cuts few is (keep_goals groups depth more others rest)
 
 -- an alternative with the new equations and new goals
-unfoldable pub carried : (asked : List ℕ) (old new : MemoryParts) (groups : List (List Alternative)) (goals now : List Pending) (a : Alternative) (w : Writes asked old groups goals a)
+unfoldable pub carried : (asked : List ℕ) (old new : MemoryParts) (groups : List (List Alternative)) (goals now : List Pending) (a : Alternative) (w : WritesAlternative asked old groups goals a)
     → (f : Equations) (all : List ℕ) → Carries old new a.equations f w.vars all → (opens : List OpenGoal) → DenoteGoals f new.system all groups (length groups) now opens
-    → Writes asked new groups now (record a { goals = opens; equations = f })
+    → WritesAlternative asked new groups now (record a { goals = opens; equations = f })
 carried asked old new groups goals now a w f all c opens d =
     let e : Equations = a.equations in
     record {

@@ -31,8 +31,8 @@ use Rattle.mars_bridge.proofs.Numbers.{number_iff}
 use Rattle.mars_bridge.proofs.Building.{node_keeps, label_denotes, equal_scoped}
 use Rattle.mars_children.proofs.Offspring.{weaken}
 use Rattle.mars_memory.specs.Memory.{MemoryParts, IsLaterMemory}
-use Rattle.mars_memory.specs.Holding.{Writes}
-use Rattle.mars_memory.specs.Found.{HasWritten, IsSettled, HoldsCall, HasCall, IsCallOf, IsDone}
+use Rattle.mars_memory.specs.Holding.{WritesAlternative}
+use Rattle.mars_memory.specs.Found.{HasWritten, IsAlternativeSettled, HoldsCall, HasCall, IsCallOf, IsBuiltInDone}
 use Rattle.mars_memory.specs.BuiltInsInside.{WritesPair, HasPair, IsMadeEqual}
 use Rattle.mars_memory.proofs.Marks.{later-memory, later_memory_follows}
 use Rattle.mars_memory.proofs.Carrying.{Carries, carried, keep_goals}
@@ -82,7 +82,7 @@ module _ (old : MemoryParts) (list left right : ℕ) (s : System) (bound : ℕ) 
       }
 
   equal-written : (asked : List ℕ) (groups : List (List Alternative)) (a : Alternative) (u t : Subject) → WritesPair asked old groups list left right a u t
-      → Writes asked (with_system old s) groups (list_at old.lists list) (record a { equations = with_equality a.equations u t })
+      → WritesAlternative asked (with_system old s) groups (list_at old.lists list) (record a { equations = with_equality a.equations u t })
   equal-written asked groups a u t p =
       let c = equal-carries asked groups a u t p in
       let f : Equations = with_equality a.equations u t in
@@ -99,7 +99,7 @@ module _ (old : MemoryParts) (list left right : ℕ) (s : System) (bound : ℕ) 
   }
 
   -- what is settled then was made equal
-  settled-equal : (new : MemoryParts) (r : Option ℕ) → IsSettled (with_system old s) list new r → IsMadeEqual old list left right new r
+  settled-equal : (new : MemoryParts) (r : Option ℕ) → IsAlternativeSettled (with_system old s) list new r → IsMadeEqual old list left right new r
   settled-equal new None h = (
     later_memory_follows old (with_system old s) new (later-system old s (extends-grows old.system s bound x)) h.0,
     λ asked groups a u t p. h.1 asked groups (record a { equations = with_equality a.equations u t }) (equal-written asked groups a u t p),
@@ -122,9 +122,9 @@ pub pair-written : (old mid : MemoryParts) (list left right bound : ℕ) → Has
 pair-written old mid list left right bound h e sound solved x = subst (λ m. HasWritten m list) (sym e) (has-equal old list left right mid.system bound sound solved x h)
 
 pub made-equal : (old mid : MemoryParts) (list left right bound : ℕ) → mid ≡ record old { system = mid.system } → IsSystem mid.system → IsSolved old.system mid.system left right
-    → Extends old.system mid.system bound → (new : MemoryParts) (r : Option ℕ) → IsSettled mid list new r → IsMadeEqual old list left right new r
+    → Extends old.system mid.system bound → (new : MemoryParts) (r : Option ℕ) → IsAlternativeSettled mid list new r → IsMadeEqual old list left right new r
 made-equal old mid list left right bound e sound solved x new r h =
-    settled-equal old list left right mid.system bound sound solved x new r (subst (λ m. IsSettled m list new r) e h)
+    settled-equal old list left right mid.system bound sound solved x new r (subst (λ m. IsAlternativeSettled m list new r) e h)
 
 -- nodes that are apart can't be made equal
 pub made-apart : (old new : MemoryParts) (list left right : ℕ) → new ≡ old → AreApart old.system left right → IsMadeEqual old list left right new None
@@ -157,7 +157,7 @@ module _ (m : MemoryParts) (node rest left right : ℕ) (is : IsCallOf m node Eq
     pair = equal-pair h.asked h.groups h.parent h.call h.others h.is_call;
   }
 
-  pub equal-done : (new : MemoryParts) (r : Option ℕ) → IsMadeEqual m rest left right new r → IsDone m node rest Eq new r
+  pub equal-done : (new : MemoryParts) (r : Option ℕ) → IsMadeEqual m rest left right new r → IsBuiltInDone m node rest Eq new r
   equal-done new None k = (k.0, λ asked groups parent call others h child c. no asked groups parent call others h child c)
     where
       no : (asked : List ℕ) (groups : List (List Alternative)) (parent : Alternative) (call : Subject) (others : List OpenGoal) → HoldsCall asked m groups node rest parent call others
@@ -253,14 +253,14 @@ module _ (m : MemoryParts) (node rest expression value : ℕ) (is : IsCallOf m n
       (held-argument asked m groups node rest parent call others h (built_in_label Val) is 0 expression at_first) z
 
   -- without a number there is no child
-  pub val-none : ((z : ℤ) → HasNumber m.system expression z → ⊥) → IsDone m node rest Val m None
+  pub val-none : ((z : ℤ) → HasNumber m.system expression z → ⊥) → IsBuiltInDone m node rest Val m None
   val-none none = (later-memory m, λ asked groups parent call others h child c. no asked groups parent call others h child c)
     where
       no : (asked : List ℕ) (groups : List (List Alternative)) (parent : Alternative) (call : Subject) (others : List OpenGoal) → HoldsCall asked m groups node rest parent call others
           → (child : Alternative) → IsBuiltInChild parent call others Val child → ⊥
       no asked groups parent call others h child (valued {z = z} t u) = none z ((val-number z asked groups parent call others h).1 t)
 
-  val-made : (z : ℤ) → HasNumber m.system expression z → (new : MemoryParts) (r : Option ℕ) → IsMadeEqual (with_integer m z) rest value (length m.system.nodes) new r → IsDone m node rest Val new r
+  val-made : (z : ℤ) → HasNumber m.system expression z → (new : MemoryParts) (r : Option ℕ) → IsMadeEqual (with_integer m z) rest value (length m.system.nodes) new r → IsBuiltInDone m node rest Val new r
   val-made z has new None k = (
     later_memory_follows m (with_integer m z) new (later-system m (with_node m.system (labelled (label.Int z) [])) (grows-node m.system (labelled (label.Int z) []))) k.0,
     λ asked groups parent call others h child c. no asked groups parent call others h child c,
@@ -291,6 +291,6 @@ module _ (m : MemoryParts) (node rest expression value : ℕ) (is : IsCallOf m n
   val-written z mid integer h e i = subst (λ k. HasPair k rest value integer) (sym e) (subst (HasPair (with_integer m z) rest value) (sym i) (val-has z h))
 
   pub val-done : (z : ℤ) (mid : MemoryParts) (integer : ℕ) → HasNumber m.system expression z → mid ≡ with_integer m z → integer ≡ length m.system.nodes
-      → (new : MemoryParts) (r : Option ℕ) → IsMadeEqual mid rest value integer new r → IsDone m node rest Val new r
+      → (new : MemoryParts) (r : Option ℕ) → IsMadeEqual mid rest value integer new r → IsBuiltInDone m node rest Val new r
   val-done z mid integer has e i new r k =
       val-made z has new r (subst (λ n. IsMadeEqual (with_integer m z) rest value n new r) i (subst (λ old. IsMadeEqual old rest value integer new r) e k))

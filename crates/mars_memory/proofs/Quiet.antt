@@ -16,7 +16,7 @@ use Rattle.mars_machine.specs.Children.Wakes.{none as wake-none}
 use Rattle.mars_bridge.specs.Represents.{DenotesPair}
 use Rattle.mars_bridge.proofs.Carried.{solvable_iff}
 use Rattle.mars_memory.specs.Memory.{MemoryParts}
-use Rattle.mars_memory.specs.Found.{IsSettled}
+use Rattle.mars_memory.specs.Found.{IsAlternativeSettled}
 use Rattle.mars_memory.proofs.Marks.{later-memory}
 
 -- an inequation that was excluded is never implied equal
@@ -41,7 +41,7 @@ none-paired R [] [] h e = refl
 none-paired R [] (y ∷ ys) h e = absurd h
 none-paired R (x ∷ xs) ys h e = cc
 
-pub quiet_settled : (m : MemoryParts) (list : ℕ) → list < length m.lists → waiting_of m.difs ≡ [] → waiting_pairs m.frozen ≡ [] → IsSettled m list m (Some list)
+pub quiet_settled : (m : MemoryParts) (list : ℕ) → list < length m.lists → waiting_of m.difs ≡ [] → waiting_pairs m.frozen ≡ [] → IsAlternativeSettled m list m (Some list)
 quiet_settled m list inside difs frozen = (
   later-memory m,
   inside,

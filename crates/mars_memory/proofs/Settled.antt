@@ -21,10 +21,10 @@ use Rattle.mars_bridge.specs.Scoped.{UsesBelow, PairUsesBelow}
 use Rattle.mars_bridge.proofs.Carried.{solvable_iff}
 use Rattle.mars_bridge.proofs.Woken.{waking_told}
 use Rattle.mars_memory.specs.Memory.{MemoryParts, IsLaterMemory}
-use Rattle.mars_memory.specs.Holding.{DenoteGoals, Writes}
+use Rattle.mars_memory.specs.Holding.{DenoteGoals, WritesAlternative}
 use Rattle.mars_memory.specs.Holding.DenoteGoals.{calls}
-use Rattle.mars_memory.specs.Found.{Settles, IsSettled}
-use Rattle.mars_memory.specs.ListsInside.{ArePushed, calls_of}
+use Rattle.mars_memory.specs.Found.{Settles, IsAlternativeSettled}
+use Rattle.mars_memory.specs.ListsInside.{ArePushed, node_calls}
 use Rattle.mars_memory.proofs.Marks.{same-memory}
 
 -- a memory whose store is the same, with more in its other parts
@@ -34,7 +34,7 @@ later_parts old new s d f more front = record { system = subst (Grows old.system
 
 -- where the inequations fail there is no solution
 pub settled_none : (old new : MemoryParts) (list : ℕ) → new.system ≡ old.system → IsAfter old.difs new.difs → new.frozen ≡ old.frozen → new.lists ≡ old.lists
-    → ((added : List (ℕ × ℕ)) → IsKeeper old.difs old.system added → IsRechecked old.system added false) → IsSettled old list new None
+    → ((added : List (ℕ × ℕ)) → IsKeeper old.difs old.system added → IsRechecked old.system added false) → IsAlternativeSettled old list new None
 settled_none old new list s d f l failed = (
   later_parts old new s d (subst (IsLaterFrozen old.frozen) (sym f) (later-all old.frozen)) (let e = ap length l in omega (arith, e)) (take_all (length old.lists) new.lists (let e = ap length l in omega (arith, e)) ∙ l),
   λ asked groups a w solvable.
@@ -59,7 +59,7 @@ wakes-use e next (pair ∷ pairs) left woken (wake-waits {left = others} n w) us
 -- nodes that denote subjects are calls of them, before other goals
 pub calls_before : (e : Equations) (system : System) (vars : List ℕ) (groups : List (List Alternative)) (limit : ℕ) (more : List Pending) (goals : List OpenGoal) (nodes : List ℕ) (subjects : List Subject)
     → DenoteAll e system vars nodes subjects → All (UsesBelow e.next) subjects → DenoteGoals e system vars groups limit more goals
-    → DenoteGoals e system vars groups limit (calls_of nodes ++ more) (map Call subjects ++ goals)
+    → DenoteGoals e system vars groups limit (node_calls nodes ++ more) (map Call subjects ++ goals)
 calls_before e system vars groups limit more goals [] [] d uses rest = rest
 calls_before e system vars groups limit more goals [] (s ∷ subjects) d uses rest = absurd d
 calls_before e system vars groups limit more goals (n ∷ nodes) [] d uses rest = absurd d
@@ -68,14 +68,14 @@ calls_before e system vars groups limit more goals (n ∷ nodes) (s ∷ subjects
 
 -- where they don't there is one, and the goals that wake are before the others
 module _ (old new : MemoryParts) (list found : ℕ) (goals : List ℕ) (s : new.system ≡ old.system) (d : IsAfter old.difs new.difs) (f : IsLaterFrozen old.frozen new.frozen)
-    (pushed : ArePushed old.lists new.lists (calls_of goals) list found)
+    (pushed : ArePushed old.lists new.lists (node_calls goals) list found)
     (fine : (added : List (ℕ × ℕ)) → IsKeeper old.difs old.system added → IsRechecked old.system added true)
     (current : (added : List (ℕ × ℕ)) → IsKeeper old.difs old.system added → IsCurrent new.difs old.system added)
     (woken : AreWoken old.system (waiting_pairs old.frozen) goals (waiting_pairs new.frozen)) (ready : CanWake new.frozen old.system) where
   now : MemoryParts
   now = record { system = old.system; difs = new.difs; frozen = new.frozen; lists = new.lists }
 
-  here : (asked : List ℕ) (groups : List (List Alternative)) (a : Alternative) → Writes asked old groups (list_at old.lists list) a → Settles asked groups a now found
+  here : (asked : List ℕ) (groups : List (List Alternative)) (a : Alternative) → WritesAlternative asked old groups (list_at old.lists list) a → Settles asked groups a now found
   unfolding now
   here asked groups a w =
       let e : Equations = a.equations in
@@ -105,7 +105,7 @@ module _ (old new : MemoryParts) (list found : ℕ) (goals : List ℕ) (s : new.
         };
       }
 
-  pub settled_some : IsSettled old list new (Some found)
+  pub settled_some : IsAlternativeSettled old list new (Some found)
   unfolding now
   settled_some = (
     later_parts old new s d f pushed.more pushed.front,

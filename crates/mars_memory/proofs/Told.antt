@@ -27,7 +27,7 @@ use Rattle.mars_bridge.proofs.Answered.{answer_denoted, roots_denoted}
 use Rattle.mars_children.specs.DecidingLaws.{OpenTold}
 use Rattle.mars_children.proofs.Deciding.{open_denoted}
 use Rattle.mars_memory.specs.Memory.{MemoryParts, root_of_node, IsLaterMemory}
-use Rattle.mars_memory.specs.Holding.{Writes, Holds}
+use Rattle.mars_memory.specs.Holding.{WritesAlternative, HoldsAlternative}
 use Rattle.mars_memory.specs.Found.{IsCallOf, IsToldTree, IsToldText, IsToldAnswer}
 use Rattle.mars_memory.proofs.Calls.{held-argument}
 use Rattle.mars_memory.proofs.BuiltIns.{kid_is, forced-first, first-forced, pairs-inside}
@@ -59,7 +59,7 @@ with_difs m difs = record m { difs = difs }
 abbrev pub AreLookedAt : MemoryParts → Kept → Type 0
 AreLookedAt m difs = (added : List (ℕ × ℕ)) → IsKeeper m.difs m.system added → IsCurrent difs m.system added
 
-module _ (m : MemoryParts) (difs : Kept) (looked : AreLookedAt m difs) (asked : List ℕ) (groups : List (List Alternative)) (goals : List Pending) (a : Alternative) (w : Writes asked m groups goals a) where
+module _ (m : MemoryParts) (difs : Kept) (looked : AreLookedAt m difs) (asked : List ℕ) (groups : List (List Alternative)) (goals : List Pending) (a : Alternative) (w : WritesAlternative asked m groups goals a) where
   open-told : OpenTold a.equations m.system w.vars a.differ (waiting_of difs)
   open-told = open_denoted a.equations m.system w.vars w.represents w.sound w.added (waiting_of difs) a.differ w.differ (looked w.added w.keeper).waiting
 
@@ -99,7 +99,7 @@ module _ (old new : MemoryParts) (e : new ≡ with_difs old new.difs) where
   })
 
   module _ (looked : AreLookedAt old new.difs) (asked : List ℕ) where
-    pub inside-looked : (groups : List (List Alternative)) (goals : List Pending) (a : Alternative) → Holds asked old groups goals a
+    pub inside-looked : (groups : List (List Alternative)) (goals : List Pending) (a : Alternative) → HoldsAlternative asked old groups goals a
         → All (λ node. node < length new.system.nodes) asked × All (ArePairsInside new.system) (waiting_of new.difs) × All (ArePairsInside new.system) (waiting_pairs new.frozen)
     inside-looked groups goals a h =
         subst (λ n. All (λ node. node < length n.system.nodes) asked × All (ArePairsInside n.system) (waiting_of new.difs) × All (ArePairsInside n.system) (waiting_pairs n.frozen)) (sym e)

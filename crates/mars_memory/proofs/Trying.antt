@@ -39,9 +39,9 @@ use Rattle.mars_bridge.proofs.Copied.{over-parts}
 use Rattle.mars_bridge.proofs.Matched.{called_by, refused_unsolvable, register-is}
 use Rattle.mars_children.proofs.Offspring.{weaken, may-take}
 use Rattle.mars_memory.specs.Memory.{MemoryParts, memory_undone, IsMemoryMark, IsLaterMemory}
-use Rattle.mars_memory.specs.Holding.{alternatives_of, height_of, DenoteGoals, Writes}
+use Rattle.mars_memory.specs.Holding.{alternatives_of, height_of, DenoteGoals, WritesAlternative}
 use Rattle.mars_memory.specs.Holding.DenoteGoals.{calls, cuts}
-use Rattle.mars_memory.specs.Found.{HoldsCall, HasCallAt, HasRule, HasWritten, IsTaken, IsSettled}
+use Rattle.mars_memory.specs.Found.{HoldsCall, HasCallAt, HasRule, HasWritten, IsTaken, IsAlternativeSettled}
 use Rattle.mars_memory.specs.ListsInside.{pendings_of}
 use Rattle.mars_memory.specs.TakingInside.{IsBodyWritten}
 use Rattle.mars_memory.proofs.Marks.{memory_mark_kept, later_memory_follows}
@@ -129,7 +129,7 @@ module _ (old mid new : MemoryParts) (node rest depth list : ℕ) (laid : FlatRu
   }
 
   pub written_child : (rule : Rule) → IsRule rule → IsFlatRule rule laid → (asked : List ℕ) (groups : List (List Alternative)) (parent : Alternative) (call : Subject) (others : List OpenGoal)
-      → HoldsCall asked old groups node rest parent call others → length groups ≡ depth → Writes asked new groups (list_at new.lists list) (to_come parent call others groups rule)
+      → HoldsCall asked old groups node rest parent call others → length groups ≡ depth → WritesAlternative asked new groups (list_at new.lists list) (to_come parent call others groups rule)
   written_child rule is fl asked groups parent call others h at =
       let w = h.holds.writes in
       let e : Equations = parent.equations in
@@ -165,7 +165,7 @@ module _ (old mid new : MemoryParts) (node rest depth list : ℕ) (laid : FlatRu
   }
 
   -- what is settled then is the child by the rule ..
-  pub taken_some : (last : MemoryParts) (found : ℕ) → IsSettled new list last (Some found) → IsTaken old node rest depth laid last (Some found)
+  pub taken_some : (last : MemoryParts) (found : ℕ) → IsAlternativeSettled new list last (Some found) → IsTaken old node rest depth laid last (Some found)
   taken_some last found s = (
     later_memory_follows old new last written_later s.0,
     s.1,
@@ -184,7 +184,7 @@ module _ (old mid new : MemoryParts) (node rest depth list : ℕ) (laid : FlatRu
   )
 
   -- .. and where nothing is, there is none
-  pub taken_undone : (last undone : MemoryParts) (mark : MachineMark) → IsSettled new list last None → IsMemoryMark old mark → memory_undone old mark ≡ old → undone ≡ memory_undone last mark
+  pub taken_undone : (last undone : MemoryParts) (mark : MachineMark) → IsAlternativeSettled new list last None → IsMemoryMark old mark → memory_undone old mark ≡ old → undone ≡ memory_undone last mark
       → IsTaken old node rest depth laid undone None
   taken_undone last undone mark s made back is_undone =
       let k = memory_mark_kept old last mark (later_memory_follows old new last written_later s.0) made in (

@@ -8,11 +8,11 @@ use Rattle.mars_machine.specs.Children.{IsChildUnder}
 use Rattle.mars_bridge.specs.Represents.{Denotes}
 use Rattle.mars_bridge.specs.Scoped.{UsesBelow}
 use Rattle.mars_memory.specs.Memory.{MemoryParts, IsLaterMemory}
-use Rattle.mars_memory.specs.Holding.{Writes, Holds}
+use Rattle.mars_memory.specs.Holding.{WritesAlternative, HoldsAlternative}
 
 -- an alternative is written whose goals are the list, and two nodes denote two subjects
 pub record WritesPair (asked : List ℕ) (m : MemoryParts) (groups : List (List Alternative)) (list left right : ℕ) (alternative : Alternative) (s t : Subject) : Type 0 where
-  pub writes : Writes asked m groups (list_at m.lists list) alternative
+  pub writes : WritesAlternative asked m groups (list_at m.lists list) alternative
   pub first : Denotes alternative.equations m.system writes.vars left s
   pub second : Denotes alternative.equations m.system writes.vars right t
   pub first_use : UsesBelow alternative.equations.next s
@@ -32,7 +32,7 @@ pub record HasPair (m : MemoryParts) (list left right : ℕ) : Type 0 where
 pub record HoldsUnder (asked : List ℕ) (groups : List (List Alternative)) (alternative : Alternative) (e : Equations) (new : MemoryParts) (list : ℕ) : Type 0 where
   pub child : Alternative
   pub under : IsChildUnder alternative e alternative.goals child
-  pub holds : Holds asked new groups (list_at new.lists list) child
+  pub holds : HoldsAlternative asked new groups (list_at new.lists list) child
 
 -- whichever alternative was written, with one equation more it has no solution; or its child under these is held
 abbrev pub IsMadeEqual : MemoryParts → ℕ → ℕ → ℕ → MemoryParts → Option ℕ → Type 0

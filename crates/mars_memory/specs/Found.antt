@@ -22,7 +22,7 @@ use Rattle.mars_machine.specs.Children.{Wakes, IsRuleChild}
 use Rattle.mars_machine.specs.BuiltIns.{IsBuiltInChild, built_in_label}
 use Rattle.mars_machine.specs.TermAnswers.{IsTermAnswer, IsAnswerOf}
 use Rattle.mars_memory.specs.Memory.{MemoryParts, IsLaterMemory}
-use Rattle.mars_memory.specs.Holding.{alternatives_of, Writes, Holds}
+use Rattle.mars_memory.specs.Holding.{alternatives_of, WritesAlternative, HoldsAlternative}
 
 -- an alternative is written whose goals are the list
 pub record HasWritten (m : MemoryParts) (list : ℕ) : Type 0 where
@@ -30,7 +30,7 @@ pub record HasWritten (m : MemoryParts) (list : ℕ) : Type 0 where
   pub groups : List (List Alternative)
   pub alternative : Alternative
   pub inside : list < length m.lists
-  pub writes : Writes asked m groups (list_at m.lists list) alternative
+  pub writes : WritesAlternative asked m groups (list_at m.lists list) alternative
 
 -- an alternative that was written has a solution, and is written with the goals that wake before its own
 pub record Settles (asked : List ℕ) (groups : List (List Alternative)) (alternative : Alternative) (new : MemoryParts) (list : ℕ) : Type 0 where
@@ -38,22 +38,22 @@ pub record Settles (asked : List ℕ) (groups : List (List Alternative)) (altern
   pub woken : List OpenGoal
   pub left : List (Subject × Subject)
   pub wakes : Wakes alternative.equations alternative.frozen woken left
-  pub writes : Writes asked new groups (list_at new.lists list) (record alternative { goals = woken ++ alternative.goals; frozen = left })
+  pub writes : WritesAlternative asked new groups (list_at new.lists list) (record alternative { goals = woken ++ alternative.goals; frozen = left })
 
 -- whichever alternative was written with the list, it has no solution; or it is settled
-abbrev pub IsSettled : MemoryParts → ℕ → MemoryParts → Option ℕ → Type 0
-IsSettled old list new None = IsLaterMemory old new
-    × ((asked : List ℕ) (groups : List (List Alternative)) (alternative : Alternative) → Writes asked old groups (list_at old.lists list) alternative
+abbrev pub IsAlternativeSettled : MemoryParts → ℕ → MemoryParts → Option ℕ → Type 0
+IsAlternativeSettled old list new None = IsLaterMemory old new
+    × ((asked : List ℕ) (groups : List (List Alternative)) (alternative : Alternative) → WritesAlternative asked old groups (list_at old.lists list) alternative
     → AreSolvable alternative.equations alternative.differ → ⊥)
-IsSettled old list new (Some found) = IsLaterMemory old new × (found < length new.lists)
-    × ((asked : List ℕ) (groups : List (List Alternative)) (alternative : Alternative) → Writes asked old groups (list_at old.lists list) alternative
+IsAlternativeSettled old list new (Some found) = IsLaterMemory old new × (found < length new.lists)
+    × ((asked : List ℕ) (groups : List (List Alternative)) (alternative : Alternative) → WritesAlternative asked old groups (list_at old.lists list) alternative
     → Settles asked groups alternative new found)
 
 -- an alternative is held whose first goal is a call of a node, and whose others are the list
 pub record HoldsCall (asked : List ℕ) (m : MemoryParts) (groups : List (List Alternative)) (node rest : ℕ) (parent : Alternative) (call : Subject) (others : List OpenGoal) : Type 0 where
   pub goals : parent.goals ≡ Call call ∷ others
   pub inside : rest < length m.lists
-  pub holds : Holds asked m groups (pending.Call node ∷ list_at m.lists rest) parent
+  pub holds : HoldsAlternative asked m groups (pending.Call node ∷ list_at m.lists rest) parent
 
 -- there is such an alternative
 pub record HasCall (m : MemoryParts) (node rest : ℕ) : Type 0 where
@@ -85,7 +85,7 @@ HasNoRuleChild m node rest depth rule = (asked : List ℕ) (groups : List (List 
 pub record HoldsRuleChild (asked : List ℕ) (groups : List (List Alternative)) (parent : Alternative) (call : Subject) (others : List OpenGoal) (rule : Rule) (new : MemoryParts) (list : ℕ) : Type 0 where
   pub child : Alternative
   pub is_child : IsRuleChild parent call others (length (alternatives_of groups)) rule child
-  pub holds : Holds asked new groups (list_at new.lists list) child
+  pub holds : HoldsAlternative asked new groups (list_at new.lists list) child
 
 -- whichever alternative with this call is held before so many choice points, its child by the rule is held now
 abbrev pub HasRuleChild : MemoryParts → ℕ → ℕ → ℕ → Rule → MemoryParts → ℕ → Type 0
@@ -103,14 +103,14 @@ IsTaken old node rest depth flat new (Some list) = IsLaterMemory old new × (lis
 pub record HoldsBuiltInChild (asked : List ℕ) (groups : List (List Alternative)) (parent : Alternative) (call : Subject) (others : List OpenGoal) (built_in : BuiltIn) (new : MemoryParts) (list : ℕ) : Type 0 where
   pub child : Alternative
   pub is_child : IsBuiltInChild parent call others built_in child
-  pub holds : Holds asked new groups (list_at new.lists list) child
+  pub holds : HoldsAlternative asked new groups (list_at new.lists list) child
 
 -- whichever alternative with this call of a built-in is held, it has no child; or its child is held now
-abbrev pub IsDone : MemoryParts → ℕ → ℕ → BuiltIn → MemoryParts → Option ℕ → Type 0
-IsDone old node rest built_in new None = IsLaterMemory old new
+abbrev pub IsBuiltInDone : MemoryParts → ℕ → ℕ → BuiltIn → MemoryParts → Option ℕ → Type 0
+IsBuiltInDone old node rest built_in new None = IsLaterMemory old new
     × ((asked : List ℕ) (groups : List (List Alternative)) (parent : Alternative) (call : Subject) (others : List OpenGoal) → HoldsCall asked old groups node rest parent call others
     → (child : Alternative) → IsBuiltInChild parent call others built_in child → ⊥)
-IsDone old node rest built_in new (Some list) = IsLaterMemory old new × (list < length new.lists)
+IsBuiltInDone old node rest built_in new (Some list) = IsLaterMemory old new × (list < length new.lists)
     × ((asked : List ℕ) (groups : List (List Alternative)) (parent : Alternative) (call : Subject) (others : List OpenGoal) → HoldsCall asked old groups node rest parent call others
     → HoldsBuiltInChild asked groups parent call others built_in new list)
 
@@ -133,4 +133,4 @@ IsToldText m node rest (Some string) = (asked : List ℕ) (groups : List (List A
 -- the answer of an alternative that is held, of an ask with variables at these nodes
 abbrev pub IsToldAnswer : MemoryParts → List ℕ → Answer → Type 0
 IsToldAnswer m asked answer = (ask : Ask) (groups : List (List Alternative)) (goals : List Pending) (alternative : Alternative)
-    → length ask.vars ≡ length asked → Holds asked m groups goals alternative → IsAnswerOf ask alternative answer
+    → length ask.vars ≡ length asked → HoldsAlternative asked m groups goals alternative → IsAnswerOf ask alternative answer

@@ -35,7 +35,7 @@ pub data DenoteGoals (e : Equations) (system : System) (vars : List ℕ) (groups
 
 -- a memory's nodes, inequations, frozen pairs and given goals denote those of an alternative before the groups. The nodes that
 -- were asked for denote the ask's variables
-pub record Writes (asked : List ℕ) (m : MemoryParts) (groups : List (List Alternative)) (goals : List Pending) (alternative : Alternative) : Type 0 where
+pub record WritesAlternative (asked : List ℕ) (m : MemoryParts) (groups : List (List Alternative)) (goals : List Pending) (alternative : Alternative) : Type 0 where
   pub sound : IsSystem m.system
   pub vars : List ℕ
   pub represents : Represents alternative.equations m.system vars
@@ -52,6 +52,6 @@ pub record Writes (asked : List ℕ) (m : MemoryParts) (groups : List (List Alte
   pub goals_are : DenoteGoals alternative.equations m.system vars groups (length groups) goals alternative.goals
 
 -- a memory holds an alternative: it is written there, and has a solution
-pub record Holds (asked : List ℕ) (m : MemoryParts) (groups : List (List Alternative)) (goals : List Pending) (alternative : Alternative) : Type 0 where
-  pub writes : Writes asked m groups goals alternative
+pub record HoldsAlternative (asked : List ℕ) (m : MemoryParts) (groups : List (List Alternative)) (goals : List Pending) (alternative : Alternative) : Type 0 where
+  pub writes : WritesAlternative asked m groups goals alternative
   pub solvable : AreSolvable alternative.equations alternative.differ

@@ -24,5 +24,5 @@ abbrev pub pendings_of : List (Option ℕ) → ℕ → List FlatGoal → List Pe
 pendings_of registers depth goals = map (pending_of registers depth) goals
 
 -- calls of nodes, in order
-abbrev pub calls_of : List ℕ → List Pending
-calls_of nodes = map pending.Call nodes
+abbrev pub node_calls : List ℕ → List Pending
+node_calls nodes = map pending.Call nodes

@@ -1,7 +1,7 @@
 //! Calls of built-ins.
 ghost use Rattle.std.specs.Prelude.{IfOk};
 ghost use Rattle.mars_machine.specs.declared.built_in.BuiltIn.TheVariants.{Eq, Dif as DifCall, Val, Freeze, Bound, Free, Out, OutText};
-ghost use Rattle.mars_memory.specs.Found.{HasCall, IsCallOf, IsDone};
+ghost use Rattle.mars_memory.specs.Found.{HasCall, IsCallOf, IsBuiltInDone};
 ghost use Rattle.mars_memory.specs.BuiltInsInside.{HasPair, IsMadeEqual};
 
 use crate::memory::Memory;
@@ -27,7 +27,7 @@ pub fn call_built_in(
 ) -> Result<Option<GoalList>, NoMemory>
     requires held { HasCall memory.old node rest }
     requires label { IsCallOf memory.old node built_in }
-    ensures { IfOk result (IsDone memory.old node rest built_in memory.new) }
+    ensures { IfOk result (IsBuiltInDone memory.old node rest built_in memory.new) }
 {
     match built_in {
         BuiltIn::Eq => call_eq(alloc, memory, node, rest),
@@ -50,7 +50,7 @@ fn call_eq(
 ) -> Result<Option<GoalList>, NoMemory>
     requires held { HasCall memory.old node rest }
     requires label { IsCallOf memory.old node Eq }
-    ensures { IfOk result (IsDone memory.old node rest Eq memory.new) }
+    ensures { IfOk result (IsBuiltInDone memory.old node rest Eq memory.new) }
 {
     let left = memory.argument(node, 0);
     let right = memory.argument(node, 1);
@@ -66,7 +66,7 @@ fn call_val(
 ) -> Result<Option<GoalList>, NoMemory>
     requires held { HasCall memory.old node rest }
     requires label { IsCallOf memory.old node Val }
-    ensures { IfOk result (IsDone memory.old node rest Val memory.new) }
+    ensures { IfOk result (IsBuiltInDone memory.old node rest Val memory.new) }
 {
     let expression = memory.argument(node, 0);
     let value = memory.argument(node, 1);
@@ -101,7 +101,7 @@ fn make_equal(
 fn call_dif(memory: &mut Memory, node: NodeId, rest: GoalList) -> Result<Option<GoalList>, NoMemory>
     requires held { HasCall memory.old node rest }
     requires label { IsCallOf memory.old node DifCall }
-    ensures { IfOk result (IsDone memory.old node rest DifCall memory.new) }
+    ensures { IfOk result (IsBuiltInDone memory.old node rest DifCall memory.new) }
 {
     let left = memory.argument(node, 0);
     let right = memory.argument(node, 1);
@@ -119,7 +119,7 @@ fn call_freeze(
 ) -> Result<Option<GoalList>, NoMemory>
     requires held { HasCall memory.old node rest }
     requires label { IsCallOf memory.old node Freeze }
-    ensures { IfOk result (IsDone memory.old node rest Freeze memory.new) }
+    ensures { IfOk result (IsBuiltInDone memory.old node rest Freeze memory.new) }
 {
     let on = memory.argument(node, 0);
     let goal = memory.argument(node, 1);
@@ -136,7 +136,7 @@ fn call_freeze(
 fn call_bound(memory: &Memory, node: NodeId, rest: GoalList) -> Option<GoalList>
     requires held { HasCall memory.now node rest }
     requires label { IsCallOf memory.now node Bound }
-    ensures { IsDone memory.now node rest Bound memory.now result }
+    ensures { IsBuiltInDone memory.now node rest Bound memory.now result }
 {
     let kid = memory.argument(node, 0);
     match memory.root_label(kid) {
@@ -149,7 +149,7 @@ fn call_bound(memory: &Memory, node: NodeId, rest: GoalList) -> Option<GoalList>
 fn call_free(memory: &Memory, node: NodeId, rest: GoalList) -> Option<GoalList>
     requires held { HasCall memory.now node rest }
     requires label { IsCallOf memory.now node Free }
-    ensures { IsDone memory.now node rest Free memory.now result }
+    ensures { IsBuiltInDone memory.now node rest Free memory.now result }
 {
     let kid = memory.argument(node, 0);
     match memory.root_label(kid) {
@@ -161,7 +161,7 @@ fn call_free(memory: &Memory, node: NodeId, rest: GoalList) -> Option<GoalList>
 /// Goes on: what it says is told by `tell_tree`.
 fn call_out(memory: &Memory, node: NodeId, rest: GoalList) -> Option<GoalList>
     requires held { HasCall memory.now node rest }
-    ensures { IsDone memory.now node rest Out memory.now result }
+    ensures { IsBuiltInDone memory.now node rest Out memory.now result }
 {
     Some(rest)
 }
@@ -170,7 +170,7 @@ fn call_out(memory: &Memory, node: NodeId, rest: GoalList) -> Option<GoalList>
 fn call_out_text(memory: &Memory, node: NodeId, rest: GoalList) -> Option<GoalList>
     requires held { HasCall memory.now node rest }
     requires label { IsCallOf memory.now node OutText }
-    ensures { IsDone memory.now node rest OutText memory.now result }
+    ensures { IsBuiltInDone memory.now node rest OutText memory.now result }
 {
     let kid = memory.argument(node, 0);
     match memory.string_at(kid) {

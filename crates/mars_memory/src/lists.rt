@@ -1,7 +1,7 @@
 //! Goals before a list: those of a rule's body, and those that wake.
 ghost use Rattle.std.specs.Prelude.{◌≡◌, ◌<◌, length, IfOk, All};
 ghost use Rattle.mars_rules.specs.TakenRules.{HasGoalNode};
-ghost use Rattle.mars_memory.specs.ListsInside.{ArePushed, pending_of, pendings_of, calls_of};
+ghost use Rattle.mars_memory.specs.ListsInside.{ArePushed, pending_of, pendings_of, node_calls};
 
 use mars_base::NoMemory;
 use mars_goals::{GoalArena, GoalList, Pending};
@@ -51,7 +51,7 @@ pub(crate) fn push_calls(
     rest: GoalList,
 ) -> Result<GoalList, NoMemory>
     requires { rest < length lists.old }
-    ensures { IfOk result (λ list. ArePushed lists.old lists.new (calls_of nodes.now) rest list) }
+    ensures { IfOk result (λ list. ArePushed lists.old lists.new (node_calls nodes.now) rest list) }
 {
     let mut list = rest;
     let mut place = nodes.len();

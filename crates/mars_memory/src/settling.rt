@@ -2,7 +2,7 @@
 ghost use Rattle.std.specs.Prelude.{◌≡◌, [], IsTrue, IfOk};
 ghost use Rattle.mars_dif.specs.Kept.{waiting_of};
 ghost use Rattle.mars_frozen.specs.Freezing.{waiting_pairs};
-ghost use Rattle.mars_memory.specs.Found.{HasWritten, IsSettled};
+ghost use Rattle.mars_memory.specs.Found.{HasWritten, IsAlternativeSettled};
 
 use crate::lists::push_calls;
 use crate::memory::Memory;
@@ -21,7 +21,7 @@ fn is_quiet(memory: &Memory) -> bool
 /// solution. Where none waits and no goal is frozen, nothing is done.
 pub(crate) fn settle(memory: &mut Memory, list: GoalList) -> Result<Option<GoalList>, NoMemory>
     requires { HasWritten memory.old list }
-    ensures { IfOk result (IsSettled memory.old list memory.new) }
+    ensures { IfOk result (IsAlternativeSettled memory.old list memory.new) }
 {
     if is_quiet(memory) {
         return Ok(Some(list));

@@ -4,7 +4,7 @@ ghost use Rattle.mars_goals.specs.declared.cells.Pending.{Pending};
 ghost use Rattle.mars_machine.specs.declared.built_in.BuiltIn.TheVariants.{Out, OutText};
 ghost use Rattle.mars_machine.specs.Alternatives.{Alternative};
 ghost use Rattle.mars_memory.specs.Memory.{IsLaterMemory};
-ghost use Rattle.mars_memory.specs.Holding.{Holds};
+ghost use Rattle.mars_memory.specs.Holding.{HoldsAlternative};
 ghost use Rattle.mars_memory.specs.Found.{HasCall, IsCallOf, IsToldTree, IsToldText, IsToldAnswer};
 
 use crate::memory::Memory;
@@ -46,7 +46,7 @@ pub fn tell_text(memory: &Memory, node: NodeId, rest: GoalList) -> Result<Option
 /// The answer that a memory holds, of an ask with variables at these nodes. It looks again at the inequations, and then takes
 /// what `answer` takes for what the answer reaches. The only error is out of memory.
 pub fn tell_answer(alloc: Global, memory: &mut Memory, asked: &[NodeId]) -> Result<Answer, NoMemory>
-    requires { (groups : List (List Alternative)) × (goals : List Pending) × (alternative : Alternative) × Holds asked.now memory.old groups goals alternative }
+    requires { (groups : List (List Alternative)) × (goals : List Pending) × (alternative : Alternative) × HoldsAlternative asked.now memory.old groups goals alternative }
     ensures answer { IfOk result (λ answer. IsToldAnswer memory.old asked.now answer) }
     ensures later { IsLaterMemory memory.old memory.new }
 {

@@ -6,7 +6,7 @@ use Rattle.mars_goals.specs.declared.choice.Choice.{Choice}
 use Rattle.mars_goals.specs.GoalLists.{list_at}
 use Rattle.mars_machine.specs.Alternatives.{Alternative}
 use Rattle.mars_memory.specs.Memory.{MemoryParts, memory_undone, IsMemoryMark}
-use Rattle.mars_memory.specs.Holding.{alternatives_of, Holds}
+use Rattle.mars_memory.specs.Holding.{alternatives_of, HoldsAlternative}
 use Rattle.mars_memory.specs.Found.{HasCallAt}
 use Rattle.mars_run.specs.Choices.{IsChoiceOf, AreChoicesOf}
 use Rattle.mars_run.specs.Choices.AreChoicesOf.{none, more}
@@ -19,7 +19,7 @@ record IsPutBack (asked : List ℕ) (rules : List Rule) (m : MemoryParts) (group
   all : List (List Alternative)
   are : AreChoicesOf asked rules m choices all
   same : alternatives_of all ≡ later ++ alternatives_of groups
-  holds : (t : MemoryParts) (ps : List Pending) (a : Alternative) → Holds asked t groups ps a → Holds asked t all ps a
+  holds : (t : MemoryParts) (ps : List Pending) (a : Alternative) → HoldsAlternative asked t groups ps a → HoldsAlternative asked t all ps a
 
 put-back : (asked : List ℕ) (rules : List Rule) (m : MemoryParts) (c : Choice) (cs : List Choice) (gs : List (List Alternative)) (later : List Alternative) (left : Option ℕ)
     → IsMemoryMark m c.mark → memory_undone m c.mark ≡ m → IsLeftOver asked rules m gs c.call c.rest left later → AreChoicesOf asked rules m cs gs

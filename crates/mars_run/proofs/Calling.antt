@@ -24,7 +24,7 @@ use Rattle.mars_bridge.proofs.Parts.{root_iff}
 use Rattle.mars_children.proofs.Offspring.{children_exist}
 use Rattle.mars_memory.specs.Memory.{MemoryParts, IsLaterMemory}
 use Rattle.mars_memory.specs.Holding.{alternatives_of}
-use Rattle.mars_memory.specs.Found.{HoldsCall, IsCallOf, IsDone, IsToldTree, IsToldText}
+use Rattle.mars_memory.specs.Found.{HoldsCall, IsCallOf, IsBuiltInDone, IsToldTree, IsToldText}
 use Rattle.mars_run.specs.States.{HasChoices}
 use Rattle.mars_run.specs.Searching.{GoesBack, GoesDown}
 use Rattle.mars_run.specs.Stepping.{IsCalled, IsOfRules, IsToldCall}
@@ -113,7 +113,7 @@ module _ (asked : List ℕ) (m : MemoryParts) (groups : List (List Alternative))
 module _ (P : RuleList) (old : MemoryParts) (choices : List Choice) (node rest : ℕ) where
   module _ (built_in : BuiltIn) (has : HasBuiltIn P.version built_in) (is_call : IsCallOf old node built_in) where
     -- the child of a built-in
-    pub built-in-goes : (told : Stepped) (new : MemoryParts) (list : ℕ) → IsToldCall old node rest built_in told → IsDone old node rest built_in new (Some list)
+    pub built-in-goes : (told : Stepped) (new : MemoryParts) (list : ℕ) → IsToldCall old node rest built_in told → IsBuiltInDone old node rest built_in new (Some list)
         → IsCalled P old choices node rest told new choices (Some list)
     built-in-goes told new list tells done asked ask groups parent call others held are =
         let made = done.2 asked groups parent call others held in
@@ -134,7 +134,7 @@ module _ (P : RuleList) (old : MemoryParts) (choices : List Choice) (node rest :
         }
 
     -- a built-in without a child
-    pub built-in-fails : (mid new : MemoryParts) (left : List Choice) (next : Option ℕ) → IsDone old node rest built_in mid None → GoesBack P.rules mid choices new left next
+    pub built-in-fails : (mid new : MemoryParts) (left : List Choice) (next : Option ℕ) → IsBuiltInDone old node rest built_in mid None → GoesBack P.rules mid choices new left next
         → IsCalled P old choices node rest Went new left next
     built-in-fails mid new left next done back asked ask groups parent call others held are = record {
       says = nothing;

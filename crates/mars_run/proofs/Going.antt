@@ -16,7 +16,7 @@ use Rattle.mars_machine.specs.Alternatives.{OpenGoal, Call, CutTo, Alternative}
 use Rattle.mars_machine.specs.Steps.{nothing, answer}
 use Rattle.mars_machine.specs.Steps.IsDerivationStep.{answers, cuts}
 use Rattle.mars_memory.specs.Memory.{MemoryParts, IsLaterMemory}
-use Rattle.mars_memory.specs.Holding.{alternatives_of, height_of, DenoteGoals, Holds}
+use Rattle.mars_memory.specs.Holding.{alternatives_of, height_of, DenoteGoals, HoldsAlternative}
 use Rattle.mars_memory.specs.Holding.DenoteGoals.{none as goals-none, calls as goals-calls, cuts as goals-cuts}
 use Rattle.mars_memory.specs.Found.{HoldsCall, HasCallAt, IsToldAnswer}
 use Rattle.mars_run.specs.Choices.{AreChoicesOf}
@@ -60,7 +60,7 @@ record IsHeldCall (asked : List ℕ) (m : MemoryParts) (groups : List (List Alte
   held : HoldsCall asked m groups node rest first call others
 
 held-call : (asked : List ℕ) (m : MemoryParts) (groups : List (List Alternative)) (node rest : ℕ) (first : Alternative) → rest < length m.lists
-    → Holds asked m groups (pending.Call node ∷ list_at m.lists rest) first → IsHeldCall asked m groups node rest first
+    → HoldsAlternative asked m groups (pending.Call node ∷ list_at m.lists rest) first → IsHeldCall asked m groups node rest first
 held-call asked m groups node rest first inside holds =
     let w = holds.writes in
     let c = call-first first.equations m.system w.vars groups (length groups) node (list_at m.lists rest) first.goals w.goals_are in
@@ -69,7 +69,7 @@ held-call asked m groups node rest first inside holds =
 pub goal-held : (rules : List Rule) (m : MemoryParts) (choices : List Choice) (goal : Pending) (node rest : ℕ) → goal ≡ pending.Call node → HasGoal rules m choices goal rest → HasCallAt m node rest (length choices)
 goal-held rules m choices goal node rest e h =
     let f = h.held in
-    let c = held-call h.asked m f.groups node rest f.first h.inside (subst (λ g. Holds h.asked m f.groups (g ∷ list_at m.lists rest) f.first) e f.holds) in
+    let c = held-call h.asked m f.groups node rest f.first h.inside (subst (λ g. HoldsAlternative h.asked m f.groups (g ∷ list_at m.lists rest) f.first) e f.holds) in
     record {
       has = record { asked = h.asked; groups = f.groups; parent = f.first; call = c.call; others = c.others; is_call = c.held };
       depth_is = sym (one-each h.asked rules m choices f.groups f.choices_are);
@@ -82,14 +82,14 @@ held-choices asked rules m choices goals h = record { asked = asked; groups = h.
 pub call-goes : (P : RuleList) (old : MemoryParts) (choices : List Choice) (goal : Pending) (node rest : ℕ) (told : Stepped) (new : MemoryParts) (left : List Choice) (next : Option ℕ)
     → goal ≡ pending.Call node → rest < length old.lists → IsCalled P old choices node rest told new left next → IsDown P old choices goal rest told new left next
 call-goes P old choices goal node rest told new left next e inside called asked ask groups first holds are =
-    let c = held-call asked old groups node rest first inside (subst (λ g. Holds asked old groups (g ∷ list_at old.lists rest) first) e holds) in
+    let c = held-call asked old groups node rest first inside (subst (λ g. HoldsAlternative asked old groups (g ∷ list_at old.lists rest) first) e holds) in
     called asked ask groups first c.call c.others c.held are
 
 -- a cut keeps the earliest choice points
 pub cut-goes : (P : RuleList) (m : MemoryParts) (choices : List Choice) (goal : Pending) (depth rest : ℕ) (left : List Choice) → goal ≡ pending.Cut depth → rest < length m.lists
     → left ≡ drop (length choices - depth) choices → IsDown P m choices goal rest Went m left (Some rest)
 cut-goes P m choices goal depth rest left e inside cut_is asked ask gs first holds are =
-    let holds_cut = subst (λ g. Holds asked m gs (g ∷ list_at m.lists rest) first) e holds in
+    let holds_cut = subst (λ g. HoldsAlternative asked m gs (g ∷ list_at m.lists rest) first) e holds in
     let w = holds_cut.writes in
     let c = cut-first first.equations m.system w.vars gs (length gs) depth (list_at m.lists rest) first.goals w.goals_are in
     let within = c.within in
@@ -140,7 +140,7 @@ module _ (asked : List ℕ) (P : RuleList) (m : MemoryParts) (choices : List Cho
   state-held goals e state is = record {
     groups = is.groups;
     first = is.first;
-    holds = subst (λ ps. Holds asked m is.groups ps is.first) e is.holds;
+    holds = subst (λ ps. HoldsAlternative asked m is.groups ps is.first) e is.holds;
     choices_are = is.choices_are;
   }
 
@@ -148,10 +148,10 @@ module _ (asked : List ℕ) (P : RuleList) (m : MemoryParts) (choices : List Cho
       → IsStepMade asked P m choices list told new left next
   answered-steps e told new left next answered ask size state is =
       subst (λ s. StepsTo asked P ask s told new left next) (sym is.state_is)
-      (answered ask size is.groups is.first (subst (λ ps. Holds asked m is.groups ps is.first) e is.holds) is.choices_are)
+      (answered ask size is.groups is.first (subst (λ ps. HoldsAlternative asked m is.groups ps is.first) e is.holds) is.choices_are)
 
   pub goal-steps : (goal : Pending) (rest : ℕ) → list_at m.lists list ≡ goal ∷ list_at m.lists rest → (told : Stepped) (new : MemoryParts) (left : List Choice) (next : Option ℕ)
       → IsDown P m choices goal rest told new left next → IsStepMade asked P m choices list told new left next
   goal-steps goal rest e told new left next down ask size state is =
       subst (λ s. StepsTo asked P ask s told new left next) (sym is.state_is)
-      (down asked ask is.groups is.first (subst (λ ps. Holds asked m is.groups ps is.first) e is.holds) is.choices_are)
+      (down asked ask is.groups is.first (subst (λ ps. HoldsAlternative asked m is.groups ps is.first) e is.holds) is.choices_are)

@@ -15,7 +15,7 @@ use Rattle.mars_machine.specs.Children.{AreRuleChildren, IsRuleChild}
 use Rattle.mars_machine.specs.Children.AreRuleChildren.{none as children-none, child as children-child, no_child as children-no_child}
 use Rattle.mars_machine.proofs.Steps.{rule_child_once}
 use Rattle.mars_memory.specs.Memory.{MemoryParts, root_of_node, first_of_node}
-use Rattle.mars_memory.specs.Holding.{alternatives_of, Holds}
+use Rattle.mars_memory.specs.Holding.{alternatives_of, HoldsAlternative}
 use Rattle.mars_memory.specs.Found.{HasNoRuleChild, HasRuleChild}
 use Rattle.mars_run.specs.Choices.{IsChoiceOf}
 use Rattle.mars_run.specs.Searching.{IsLeftOver}
@@ -65,7 +65,7 @@ module _ (asked : List ℕ) (rules : List Rule) (m : MemoryParts) (groups : List
     pub first : Alternative
     pub later : List Alternative
     pub children_are : children ≡ first ∷ later
-    pub holds : Holds asked new groups (list_at new.lists list) first
+    pub holds : HoldsAlternative asked new groups (list_at new.lists list) first
     pub left : IsChoiceOf asked rules m groups node rest (from + 1) later
 
   pub choice-taken : (from : ℕ) (rule : Rule) (children : List Alternative) (new : MemoryParts) (list : ℕ) → slice_get rules from ≡ Some rule → HasRuleChild m node rest depth rule new list

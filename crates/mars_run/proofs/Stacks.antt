@@ -7,7 +7,7 @@ use Rattle.mars_goals.specs.declared.choice.Choice.{Choice}
 use Rattle.mars_machine.specs.Equations.{Equations}
 use Rattle.mars_machine.specs.Alternatives.{OpenGoal, Alternative}
 use Rattle.mars_memory.specs.Memory.{MemoryParts, memory_undone, IsMemoryMark, IsLaterMemory}
-use Rattle.mars_memory.specs.Holding.{alternatives_of, height_of, DenoteGoals, Writes, Holds}
+use Rattle.mars_memory.specs.Holding.{alternatives_of, height_of, DenoteGoals, WritesAlternative, HoldsAlternative}
 use Rattle.mars_memory.specs.Holding.DenoteGoals.{none as goals-none, calls as goals-calls, cuts as goals-cuts}
 use Rattle.mars_memory.proofs.Marks.{memory_mark_kept}
 use Rattle.mars_run.specs.Choices.{IsChoiceOf, AreChoicesOf}
@@ -38,8 +38,8 @@ goals-moved e s vars groups others limit move (p ∷ ps) gs (goals-cuts {depth =
     goals-cuts h (same ∙ move depth h) (goals-moved e s vars groups others depth (λ d l. move d (omega arith)) ps _ rest)
 
 -- a memory writes an alternative with other goals, which its own denote
-pub writes-with : (asked : List ℕ) (m : MemoryParts) (groups others : List (List Alternative)) (ps qs : List Pending) (a : Alternative) (goals : List OpenGoal) (w : Writes asked m groups ps a)
-    → DenoteGoals a.equations m.system w.vars others (length others) qs goals → Writes asked m others qs (record a { goals = goals })
+pub writes-with : (asked : List ℕ) (m : MemoryParts) (groups others : List (List Alternative)) (ps qs : List Pending) (a : Alternative) (goals : List OpenGoal) (w : WritesAlternative asked m groups ps a)
+    → DenoteGoals a.equations m.system w.vars others (length others) qs goals → WritesAlternative asked m others qs (record a { goals = goals })
 writes-with asked m groups others ps qs a goals w are = record {
   sound = w.sound;
   vars = w.vars;
@@ -59,7 +59,7 @@ writes-with asked m groups others ps qs a goals w are = record {
 
 -- what is held is held before one group more
 pub holds-cons : (asked : List ℕ) (m : MemoryParts) (group : List Alternative) (groups : List (List Alternative)) (ps : List Pending) (a : Alternative)
-    → Holds asked m groups ps a → Holds asked m (group ∷ groups) ps a
+    → HoldsAlternative asked m groups ps a → HoldsAlternative asked m (group ∷ groups) ps a
 holds-cons asked m group groups ps a h =
     let w = h.writes in
     record {

@@ -23,7 +23,7 @@ use Rattle.mars_machine.proofs.Runs.{start_alive}
 use Rattle.mars_bridge.specs.Represents.{DenoteAll}
 use Rattle.mars_bridge.specs.Scoped.{PairUsesBelow}
 use Rattle.mars_memory.specs.Memory.{MemoryParts}
-use Rattle.mars_memory.specs.Holding.{height_of, alternatives_of, DenoteGoals, Holds}
+use Rattle.mars_memory.specs.Holding.{height_of, alternatives_of, DenoteGoals, HoldsAlternative}
 use Rattle.mars_memory.specs.Holding.DenoteGoals.{none as goals-none, calls as goals-calls, cuts as goals-cuts}
 use Rattle.mars_start.specs.Started.{IsFirstGoal, IsStarted}
 use Rattle.mars_run.specs.Choices.AreChoicesOf.{none}
@@ -54,7 +54,7 @@ module _ (ask : Ask) (kept : List (List Node)) (s : System) (vars : List ℕ) (l
   pub one-node : length ask.vars ≡ length vars
   one-node = sym is.represents.one_each
 
-  first-held : Holds vars m [] (list_at lists list) first
+  first-held : HoldsAlternative vars m [] (list_at lists list) first
   first-held = record {
     writes = record {
       sound = is.system;

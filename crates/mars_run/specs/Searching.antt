@@ -5,7 +5,7 @@ use Rattle.mars_goals.specs.declared.choice.Choice.{Choice}
 use Rattle.mars_goals.specs.GoalLists.{list_at}
 use Rattle.mars_machine.specs.Alternatives.{Alternative}
 use Rattle.mars_memory.specs.Memory.{MemoryParts, IsLaterMemory}
-use Rattle.mars_memory.specs.Holding.{alternatives_of, Holds}
+use Rattle.mars_memory.specs.Holding.{alternatives_of, HoldsAlternative}
 use Rattle.mars_run.specs.Choices.{IsChoiceOf, AreChoicesOf}
 use Rattle.mars_run.specs.States.{IsState, IsMachineState}
 
@@ -20,7 +20,7 @@ pub record HasNext (asked : List ℕ) (rules : List Rule) (old : MemoryParts) (g
   pub first : Alternative
   pub later : List Alternative
   pub children_are : children ≡ first ∷ later
-  pub holds : Holds asked new groups (list_at new.lists list) first
+  pub holds : HoldsAlternative asked new groups (list_at new.lists list) first
   pub left_are : IsLeftOver asked rules old groups node rest left later
 
 -- rules were tried on a call before so many choice points, from a place on: no child is left and the memory is as before, or

@@ -5,7 +5,7 @@ use Rattle.mars_goals.specs.declared.choice.Choice.{Choice}
 use Rattle.mars_goals.specs.GoalLists.{list_at}
 use Rattle.mars_machine.specs.Alternatives.{Alternative}
 use Rattle.mars_memory.specs.Memory.{MemoryParts}
-use Rattle.mars_memory.specs.Holding.{alternatives_of, Holds}
+use Rattle.mars_memory.specs.Holding.{alternatives_of, HoldsAlternative}
 use Rattle.mars_run.specs.Choices.{AreChoicesOf}
 
 -- a state with alternatives: the first is held with the goals of a list, and the choice points have the others left
@@ -14,7 +14,7 @@ pub record IsState (asked : List ℕ) (rules : List Rule) (m : MemoryParts) (cho
   pub groups : List (List Alternative)
   pub state_is : state ≡ first ∷ alternatives_of groups
   pub inside : list < length m.lists
-  pub holds : Holds asked m groups (list_at m.lists list) first
+  pub holds : HoldsAlternative asked m groups (list_at m.lists list) first
   pub choices_are : AreChoicesOf asked rules m choices groups
 
 -- the same, or a state without alternatives where there is no list

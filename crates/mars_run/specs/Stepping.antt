@@ -15,7 +15,7 @@ use Rattle.mars_machine.specs.BuiltIns.{HasBuiltIn, IsBuiltInChild}
 use Rattle.mars_machine.specs.Steps.{Says, BuiltInSays, IsDerivationStep}
 use Rattle.mars_machine.specs.Machines.{TellsSaying}
 use Rattle.mars_memory.specs.Memory.{MemoryParts}
-use Rattle.mars_memory.specs.Holding.{alternatives_of, Holds}
+use Rattle.mars_memory.specs.Holding.{alternatives_of, HoldsAlternative}
 use Rattle.mars_memory.specs.Found.{HoldsCall, IsCallOf}
 use Rattle.mars_run.specs.Choices.{AreChoicesOf}
 use Rattle.mars_run.specs.States.{IsState, IsMachineState}
@@ -44,7 +44,7 @@ IsCalled P old choices node rest stepped new left next =
 pub record HoldsGoals (asked : List ℕ) (rules : List Rule) (m : MemoryParts) (choices : List Choice) (goals : List Pending) : Type 0 where
   pub groups : List (List Alternative)
   pub first : Alternative
-  pub holds : Holds asked m groups goals first
+  pub holds : HoldsAlternative asked m groups goals first
   pub choices_are : AreChoicesOf asked rules m choices groups
 
 abbrev pub HasAnswer : List ℕ → List Rule → MemoryParts → List Choice → Type 0
@@ -53,7 +53,7 @@ HasAnswer asked rules m choices = HoldsGoals asked rules m choices []
 -- whichever alternative without goals was held, its step told this
 abbrev pub IsAnswerStep : List ℕ → RuleList → MemoryParts → List Choice → Stepped → MemoryParts → List Choice → Option ℕ → Type 0
 IsAnswerStep asked P old choices stepped new left next =
-    (ask : Ask) → length ask.vars ≡ length asked → (groups : List (List Alternative)) (first : Alternative) → Holds asked old groups [] first → AreChoicesOf asked P.rules old choices groups
+    (ask : Ask) → length ask.vars ≡ length asked → (groups : List (List Alternative)) (first : Alternative) → HoldsAlternative asked old groups [] first → AreChoicesOf asked P.rules old choices groups
     → StepsTo asked P ask (first ∷ alternatives_of groups) stepped new left next
 
 -- an alternative is held whose goals are a goal before a list
@@ -65,7 +65,7 @@ pub record HasGoal (rules : List Rule) (m : MemoryParts) (choices : List Choice)
 -- whichever such alternative was held, its step told this
 abbrev pub IsDown : RuleList → MemoryParts → List Choice → Pending → ℕ → Stepped → MemoryParts → List Choice → Option ℕ → Type 0
 IsDown P old choices goal rest stepped new left next =
-    (asked : List ℕ) (ask : Ask) (groups : List (List Alternative)) (first : Alternative) → Holds asked old groups (goal ∷ list_at old.lists rest) first
+    (asked : List ℕ) (ask : Ask) (groups : List (List Alternative)) (first : Alternative) → HoldsAlternative asked old groups (goal ∷ list_at old.lists rest) first
     → AreChoicesOf asked P.rules old choices groups → StepsTo asked P ask (first ∷ alternatives_of groups) stepped new left next
 
 -- the call of a node is of no built-in of the version

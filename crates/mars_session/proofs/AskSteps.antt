@@ -19,7 +19,7 @@ use Rattle.mars_machine.proofs.Runs.{derivation_once}
 use Rattle.mars_session.specs.Lines.{told_line, told_answer}
 use Rattle.mars_session.specs.AskEvents.{AskEvent, GoesOnNow, ClosesBy, IsStepEvent}
 use Rattle.mars_session.specs.LinesInside.{CanBeWritten}
-use Rattle.mars_session.specs.AskingInside.{IsAsking, ending_at, is_enough, counted_answer, end_text}
+use Rattle.mars_session.specs.AskingInside.{IsAskGoing, ending_at, is_enough, counted_answer, end_text}
 use Rattle.mars_session.proofs.AskTexts.{below_budget}
 
 told : (b : Bool) → (b ≡ true) ⊎ (b ≡ false)
@@ -71,7 +71,7 @@ module _ (budget : ℕ) (most : Option ℕ) (steps : ℕ) (said : List Says) (st
   ends_by answers same = subst (λ (n : ℕ). MatchOption (ending_at most n left steps budget) (GoesOnNow budget most steps said state) (λ e. EndsNow budget most steps said state e)) (sym same) (by_enough (is_enough most (answer_count said)) refl)
 
 -- A step of a machine whose ask goes on tells something.
-not_ended : (budget : ℕ) (m : SeenMachine) (answers : ℕ) → IsAsking budget m answers → TellsLeft m false → ⊥
+not_ended : (budget : ℕ) (m : SeenMachine) (answers : ℕ) → IsAskGoing budget m answers → TellsLeft m false → ⊥
 not_ended budget m answers a t =
     let same = derivation_once m.rules m.ask m.kept m.steps a.said t.said a.state t.state a.run t.run in
     none t.state refl same.1
@@ -80,7 +80,7 @@ not_ended budget m answers a t =
     none [] e same = a.goes_on End (same ∙ e, λ h. a.goes_on Enough h)
     none (first ∷ rest) e same = cc (t.left_is.1 (λ nil. cc (sym e ∙ nil)))
 
-pub tells_next : (budget : ℕ) (m : SeenMachine) (answers : ℕ) (stepped : Stepped) → IsAsking budget m answers → IsMachineStep m stepped → TellsNext m stepped
+pub tells_next : (budget : ℕ) (m : SeenMachine) (answers : ℕ) (stepped : Stepped) → IsAskGoing budget m answers → IsMachineStep m stepped → TellsNext m stepped
 tells_next budget m answers Ended a t = absurd (not_ended budget m answers a t)
 tells_next budget m answers Went a t = t
 tells_next budget m answers (Said c) a t = t
@@ -94,7 +94,7 @@ written ask (SaidText s) says t = tt
 written ask (Answered a) says t = t.2.vars
 written ask Ended says t = tt
 
-pub can_be_written : (budget : ℕ) (m : SeenMachine) (answers : ℕ) (stepped : Stepped) → IsAsking budget m answers → IsMachineStep m stepped → CanBeWritten m.ask.vars stepped
+pub can_be_written : (budget : ℕ) (m : SeenMachine) (answers : ℕ) (stepped : Stepped) → IsAskGoing budget m answers → IsMachineStep m stepped → CanBeWritten m.ask.vars stepped
 can_be_written budget m answers stepped a t = let next = tells_next budget m answers stepped a t in written m.ask stepped next.says next.tells
 
 next_is : (m : SeenMachine) (stepped : Stepped) → TellsNext m stepped → stepped_machine m stepped ≡ record m { steps = m.steps + 1 }
@@ -104,7 +104,7 @@ next_is m (SaidText s) t = refl
 next_is m (Answered d) t = refl
 next_is m Ended t = absurd t.tells
 
-pub after_step : (budget : ℕ) (m : SeenMachine) (answers : ℕ) (stepped : Stepped) → IsAsking budget m answers → IsMachineStep m stepped → stepped_machine m stepped ≡ record m { steps = m.steps + 1 }
+pub after_step : (budget : ℕ) (m : SeenMachine) (answers : ℕ) (stepped : Stepped) → IsAskGoing budget m answers → IsMachineStep m stepped → stepped_machine m stepped ≡ record m { steps = m.steps + 1 }
 after_step budget m answers stepped a t = next_is m stepped (tells_next budget m answers stepped a t)
 
 -- the answers with what was told
@@ -156,7 +156,7 @@ stepped_on m = record m { steps = m.steps + 1 }
 abbrev pub found_event : List (List ℕ) → SeenMachine → ℕ → Stepped → Option Ending → AskEvent
 found_event names m answers stepped o = record { text = told_line names m.ask.vars answers stepped ++ end_text o (m.steps + 1); answer = told_answer stepped; ends = is_some o }
 
-module _ (names : List (List ℕ)) (budget : ℕ) (m : SeenMachine) (answers : ℕ) (stepped : Stepped) (left : Bool) (a : IsAsking budget m answers) (is : IsMachineStep m stepped) (t : TellsLeft (stepped_on m) left) where
+module _ (names : List (List ℕ)) (budget : ℕ) (m : SeenMachine) (answers : ℕ) (stepped : Stepped) (left : Bool) (a : IsAskGoing budget m answers) (is : IsMachineStep m stepped) (t : TellsLeft (stepped_on m) left) where
   one : m.steps + 1 ≡ suc m.steps
   one = omega arith
 
@@ -212,7 +212,7 @@ module _ (names : List (List ℕ)) (budget : ℕ) (m : SeenMachine) (answers : �
     answer_is = refl;
   }
 
-  pub asks_on : (o : Option Ending) → o ≡ ending_at m.ask.most (counted_answer answers (told_answer stepped)) left (m.steps + 1) budget → is_some o ≡ false → IsAsking budget (stepped_on m) (counted_answer answers (told_answer stepped))
+  pub asks_on : (o : Option Ending) → o ≡ ending_at m.ask.most (counted_answer answers (told_answer stepped)) left (m.steps + 1) budget → is_some o ≡ false → IsAskGoing budget (stepped_on m) (counted_answer answers (told_answer stepped))
   unfolding next
   asks_on o e none =
       let goes = goes_by budget m.ask.most (suc m.steps) (next.said ++ next.says ∷ []) next.after o (ends o e) none in
@@ -237,7 +237,7 @@ ends_at_once ask kept budget = ends_by budget ask.most 0 [] (ask_start ask kept 
 pub at_once_end : (ask : Ask) (kept : List (List Node)) (budget : ℕ) (e : Ending) → ending_at ask.most 0 true 0 budget ≡ Some e → EndsNow budget ask.most 0 [] (ask_start ask kept ∷ []) e
 at_once_end ask kept budget e is = subst (λ (o : Option Ending). MatchOption o (GoesOnNow budget ask.most 0 [] (ask_start ask kept ∷ [])) (λ e. EndsNow budget ask.most 0 [] (ask_start ask kept ∷ []) e)) is (ends_at_once ask kept budget)
 
-pub started_asks : (P : RuleList) (ask : Ask) (kept : List (List Node)) (budget : ℕ) → ending_at ask.most 0 true 0 budget ≡ None → IsAsking budget (started_machine P ask kept) 0
+pub started_asks : (P : RuleList) (ask : Ask) (kept : List (List Node)) (budget : ℕ) → ending_at ask.most 0 true 0 budget ≡ None → IsAskGoing budget (started_machine P ask kept) 0
 started_asks P ask kept budget is =
     let on : GoesOnNow budget ask.most 0 [] (ask_start ask kept ∷ []) = subst (λ (o : Option Ending). MatchOption o (GoesOnNow budget ask.most 0 [] (ask_start ask kept ∷ [])) (λ e. EndsNow budget ask.most 0 [] (ask_start ask kept ∷ []) e)) is (ends_at_once ask kept budget) in
     record { works = refl; said = []; state = ask_start ask kept ∷ []; run = begins; count = refl; goes_on = on; within = below_budget budget ask.most 0 [] (ask_start ask kept ∷ []) on (omega arith) }

@@ -19,15 +19,15 @@ use Rattle.mars_session.specs.Lines.{ending_line}
 use Rattle.mars_session.specs.AskEvents.{AskEvent, GoesOnNow, EndsAtOnce}
 
 -- the graph of an answer
-abbrev pub canon_of : Option Answer → Option Rooted
-canon_of answer = option_map (λ a. a.canon) answer
+abbrev pub answer_canon : Option Answer → Option Rooted
+answer_canon answer = option_map (λ a. a.canon) answer
 
 -- an event as definitions see it
 abbrev pub event_seen : AskStepped → AskEvent
-event_seen e = record { text = e.text.items; answer = canon_of e.answer; ends = e.ends }
+event_seen e = record { text = e.text.items; answer = answer_canon e.answer; ends = e.ends }
 
 -- the machine of an ask that isn't at its end, and how many answers it gave
-pub record IsAsking (budget : ℕ) (machine : SeenMachine) (answers : ℕ) : Type 0 where
+pub record IsAskGoing (budget : ℕ) (machine : SeenMachine) (answers : ℕ) : Type 0 where
   pub works : machine.broken ≡ false
   pub said : List Says
   pub state : List Alternative
@@ -59,4 +59,4 @@ end_text None steps = []
 -- an ask at its beginning: it is at its end, or its machine is started
 abbrev pub IsBegun : RuleList → Ask → List (List Node) → ℕ → Begun → Type 0
 IsBegun P ask kept budget (Ended e) = EndsAtOnce ask kept budget 0 (event_seen e) × (e.ends ≡ true)
-IsBegun P ask kept budget (Runs asking) = (asking.machine ≡ started_machine P ask kept) × IsAsking budget asking.machine asking.answers
+IsBegun P ask kept budget (Runs asking) = (asking.machine ≡ started_machine P ask kept) × IsAskGoing budget asking.machine asking.answers

@@ -13,7 +13,7 @@ use Rattle.mars_session.specs.declared.wishes.Wish.{Wish}
 use Rattle.mars_session.specs.SessionPoints.{SessionPart, SessionPoint, named_trees}
 use Rattle.mars_session.specs.CommandActs.{TableUse, Writes, Uses, ActsAt, AnswersCall}
 use Rattle.mars_session.specs.AskEvents.{IsAskEvent}
-use Rattle.mars_session.specs.AskingInside.{IsAsking, event_seen}
+use Rattle.mars_session.specs.AskingInside.{IsAskGoing, event_seen}
 use Rattle.mars_session.specs.SessionSeen.{SessionSeen, WantsNext}
 use Rattle.mars_session.specs.WishesInside.{IsWish}
 
@@ -33,7 +33,7 @@ pub record RunsAsk (part : SessionPart) (p : SessionPoint) (a : Asking) : Type 0
   pub kept : List (List Node)
   pub next : IsNextAsk part p ask kept
   pub machine : a.machine ≡ record { rules = part.rules; ask = ask; kept = kept; steps = p.steps; broken = false }
-  pub asks : IsAsking part.budget a.machine a.answers
+  pub asks : IsAskGoing part.budget a.machine a.answers
 
 -- the wish stands for what the next command wants
 pub record IsPending (part : SessionPart) (p : SessionPoint) (wish : Wish) : Type 0 where
@@ -62,7 +62,7 @@ pub record RunsOn (s : SessionSeen) (ask : Ask) (a : Asking) : Type 0 where
   pub kept : List (List Node)
   pub next : IsNextAsk s.part s.point ask kept
   pub machine : a.machine ≡ record { rules = s.part.rules; ask = ask; kept = kept; steps = s.point.steps + 1; broken = false }
-  pub asks : IsAsking s.part.budget a.machine a.answers
+  pub asks : IsAskGoing s.part.budget a.machine a.answers
 
 -- the next command wants what the wish stands for
 pub record WishesNext (s : SessionSeen) (wish : Wish) : Type 0 where

@@ -7,7 +7,7 @@ use Rattle.mars_session.specs.SessionPoints.{SessionPart, SessionPoint}
 use Rattle.mars_session.specs.SessionSeen.{SessionSeen}
 use Rattle.mars_session.specs.SessionEvents.{ReachesPoint}
 use Rattle.mars_session.specs.ActsInside.{latest_of}
-use Rattle.mars_session.specs.AskingInside.{canon_of}
+use Rattle.mars_session.specs.AskingInside.{answer_canon}
 use Rattle.mars_session.specs.NextInside.{RunsAsk, IsPending, IsFormedAsk}
 
 abbrev pub part_in : Inside → SessionPart
@@ -17,7 +17,7 @@ abbrev pub point_in : Inside → SessionPoint
 point_in p = record {
   done = p.done;
   steps = p.steps;
-  answer = canon_of p.answer;
+  answer = answer_canon p.answer;
   names = p.map.items;
   latest = latest_of p.latest;
   mine = p.mine.items;

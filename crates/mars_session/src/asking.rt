@@ -3,7 +3,7 @@ ghost use Rattle.std.specs.Prelude.{◌≡◌, ◌+◌, ◌++◌, IfOk, OnOk, is
 ghost use Rattle.mars_term.specs.Clauses.{IsAsk};
 ghost use Rattle.mars_session.specs.Lines.{told_answer};
 ghost use Rattle.mars_session.specs.AskEvents.{IsStepEvent};
-ghost use Rattle.mars_session.specs.AskingInside.{event_seen, IsAsking, IsBegun, ending_at, is_enough, end_text, counted_answer, canon_of};
+ghost use Rattle.mars_session.specs.AskingInside.{event_seen, IsAskGoing, IsBegun, ending_at, is_enough, end_text, counted_answer, answer_canon};
 
 use crate::lines::{push_ending, push_told};
 use mars_answer::Answer;
@@ -51,7 +51,7 @@ fn ending_at(most: Option<u64>, answers: u64, left: bool, steps: u64, budget: u6
 
 /// The answer that a step tells.
 fn answer_of(stepped: Stepped) -> Option<Answer>
-    ensures { canon_of result ≡ told_answer stepped }
+    ensures { answer_canon result ≡ told_answer stepped }
 {
     match stepped {
         Stepped::Answered(answer) => Some(answer),
@@ -64,7 +64,7 @@ fn answer_of(stepped: Stepped) -> Option<Answer>
 
 /// So many answers and one more, where there is one.
 fn count_answer(answers: u64, answer: &Option<Answer>) -> Result<u64, NoMemory>
-    ensures { IfOk result (λ more. more ≡ counted_answer answers (canon_of answer.now)) }
+    ensures { IfOk result (λ more. more ≡ counted_answer answers (answer_canon answer.now)) }
 {
     match answer {
         Some(_) => answers.checked_add(1).ok_or(NoMemory),
@@ -102,11 +102,11 @@ pub(crate) fn step_ask<'a>(
     most: Option<u64>,
     asking: &mut Asking<'a>,
 ) -> Result<AskStepped, NoMemory>
-    requires runs { IsAsking budget asking.old.machine asking.old.answers }
+    requires runs { IsAskGoing budget asking.old.machine asking.old.answers }
     requires vars { vars.now ≡ asking.old.machine.ask.vars }
     requires most { most ≡ asking.old.machine.ask.most }
     ensures event { IfOk result (λ e. IsStepEvent names.now asking.old.machine.rules asking.old.machine.ask asking.old.machine.kept budget asking.old.machine.steps (event_seen e)) }
-    ensures on { IfOk result (λ e. e.ends ≡ false → IsAsking budget asking.new.machine asking.new.answers) }
+    ensures on { IfOk result (λ e. e.ends ≡ false → IsAskGoing budget asking.new.machine asking.new.answers) }
     ensures steps { OnOk result (asking.new.machine ≡ record asking.old.machine { steps = asking.old.machine.steps + 1 }) }
 {
     let stepped = asking.machine.step()?;

@@ -9,7 +9,7 @@ ghost use Rattle.mars_session.specs.ActsInside.{IsAct};
 ghost use Rattle.mars_tree.specs.Graph.{Node};
 ghost use Rattle.mars_session.specs.SessionEvents.{WantsCall, ReachesPoint};
 ghost use Rattle.mars_session.specs.SessionSeen.{SessionSeen, started_session, cut_session, session_text, TurnsTo, MovesOn, WantsNext, TakesReply, HasMore};
-ghost use Rattle.mars_session.specs.AskingInside.{canon_of, IsBegun};
+ghost use Rattle.mars_session.specs.AskingInside.{answer_canon, IsBegun};
 ghost use Rattle.mars_session.specs.NextInside.{IsFormedAsk, WritesNext, AsksNext, RunsOn, WishesNext, WantsReply};
 ghost use Rattle.mars_session.specs.SessionEvents.{later_answer};
 
@@ -71,7 +71,7 @@ impl<'a> Model for Session<'a> {
 
 /// The later of two answers.
 fn later(earlier: Option<Answer>, answer: Option<Answer>) -> Option<Answer>
-    ensures { canon_of result ≡ later_answer (canon_of earlier) (canon_of answer) }
+    ensures { answer_canon result ≡ later_answer (answer_canon earlier) (answer_canon answer) }
 {
     match answer {
         Some(answer) => Some(answer),

@@ -12,8 +12,8 @@ abbrev pub job_of : Keeper → JobSeen
 job_of k = record { number = k.who; calls = k.made.items; cut = k.cut }
 
 -- a call with its tree, whatever the reply
-abbrev pub KeepsTree : Keeper → Entry → Type 0
-KeepsTree k e = (reply : Reply) × (e ≡ call_entry k.who (Intern k.tree) reply)
+abbrev pub KeepsOneTree : Keeper → Entry → Type 0
+KeepsOneTree k e = (reply : Reply) × (e ≡ call_entry k.who (Intern k.tree) reply)
 
 -- it was cut, or made all its calls
 abbrev pub KeepsNoMore : Keeper → Type 0

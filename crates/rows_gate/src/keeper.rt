@@ -2,7 +2,7 @@
 ghost use Rattle.std.specs.Prelude.{◌≡◌, [], false, refl, IfOk, OnErr, vec_len, ◌<◌, vec_capacity};
 ghost use Rattle.std.proofs.Common.{◌∙◌};
 ghost use Rattle.mars_canon.specs.Tree.{IsTree};
-ghost use Rattle.rows_gate.specs.Keepers.{job_of, KeepsTree, KeepsNoMore, SameKeeper};
+ghost use Rattle.rows_gate.specs.Keepers.{job_of, KeepsOneTree, KeepsNoMore, SameKeeper};
 
 use mars_base::NoMemory;
 use mars_canon::Tree;
@@ -70,7 +70,7 @@ impl Keeper {
 impl Job for Keeper {
     ghost job = { job_of };
 
-    ghost Lacks = { KeepsTree };
+    ghost Lacks = { KeepsOneTree };
 
     ghost IsDone = { KeepsNoMore };
 

@@ -49,8 +49,7 @@ const ZEBRA: &[u8] = b" mem(x,x.y) -> ; mem(x,z.y) -> mem(x,y);
         mem(hh(f9,g1,lucky,orange,g2),h) mem(hh(japan,g3,parliament,g4,g5),h)
         beside(hh(norway,g6,g7,g8,g9),hh(h1,h2,h3,h4,blue),h) mem(hh(o,zebra,h5,h6,h7),h);";
 
-const CYCLIC: &[u8] =
-    b" along(0,x) -> ; along(n,e.x) -> dif(n,0) val(sub(n,1),m) along(m,x);";
+const CYCLIC: &[u8] = b" along(0,x) -> ; along(n,e.x) -> dif(n,0) val(sub(n,1),m) along(m,x);";
 
 /// An input with the rules of a kind, and one ask of a size.
 pub(super) fn program(alloc: Global, kind: Kind, size: u64) -> Result<Vec<u8>, NoMemory> {

@@ -1,6 +1,6 @@
 use Rattle.std.proofs.lemmas.Result.{IfOk-weaker}
 use Rattle.mars_machine.specs.declared.built_in.BuiltIn.TheVariants.{Eq}
-use Rattle.mars_memory.specs.Found.{IsDone}
+use Rattle.mars_memory.specs.Found.{IsBuiltInDone}
 use Rattle.mars_memory.specs.BuiltInsInside.{IsMadeEqual}
 use Rattle.mars_memory.proofs.Calls.{call-inside}
 use Rattle.mars_memory.proofs.Equalled.{equal-has, equal-done}
@@ -18,6 +18,6 @@ make_equal-requires c =
 
 pub returns : goal.returns
 returns c =
-    IfOk-weaker c.make_equal.result (IsMadeEqual c.args.memory.now c.args.rest c.argument-left.result c.argument-right.result c.make_equal.new.memory) (IsDone c.args.memory.now c.args.node c.args.rest Eq c.make_equal.new.memory)
+    IfOk-weaker c.make_equal.result (IsMadeEqual c.args.memory.now c.args.rest c.argument-left.result c.argument-right.result c.make_equal.new.memory) (IsBuiltInDone c.args.memory.now c.args.node c.args.rest Eq c.make_equal.new.memory)
     (equal-done c.args.memory.now c.args.node c.args.rest c.argument-left.result c.argument-right.result c.requires.label c.argument-left.ensures.kid c.argument-right.ensures.kid c.make_equal.new.memory)
     c.make_equal.ensures

@@ -3,7 +3,7 @@ use mir.Val.{SFits}
 use Rattle.std.proofs.lemmas.Int.{to_z-of_z}
 use Rattle.std.proofs.lemmas.Result.{IfOk-weaker}
 use Rattle.mars_machine.specs.declared.built_in.BuiltIn.TheVariants.{Val}
-use Rattle.mars_memory.specs.Found.{IsDone}
+use Rattle.mars_memory.specs.Found.{IsBuiltInDone}
 use Rattle.mars_memory.specs.BuiltInsInside.{IsMadeEqual}
 use Rattle.mars_memory.proofs.Calls.{call-inside}
 use Rattle.mars_memory.proofs.Equalled.{val-none, val-written, val-done}
@@ -24,7 +24,7 @@ make_equal-requires c =
 pub returns-in_ok-integer-in-Some : goal.returns-in_ok-integer-in-Some
 returns-in_ok-integer-in-Some c =
     let fits : SFits w64 c.in-Some.number = search rules in
-    IfOk-weaker c.make_equal.result (IsMadeEqual c.leaf.new.self c.args.rest c.argument-value.result c.in_ok-integer-in-Some.integer c.make_equal.new.memory) (IsDone c.args.memory.now c.args.node c.args.rest Val c.make_equal.new.memory)
+    IfOk-weaker c.make_equal.result (IsMadeEqual c.leaf.new.self c.args.rest c.argument-value.result c.in_ok-integer-in-Some.integer c.make_equal.new.memory) (IsBuiltInDone c.args.memory.now c.args.node c.args.rest Val c.make_equal.new.memory)
     (val-done c.args.memory.now c.args.node c.args.rest c.argument-expression.result c.argument-value.result c.requires.label c.argument-expression.ensures.kid c.argument-value.ensures.kid
     c.in-Some.number c.leaf.new.self c.in_ok-integer-in-Some.integer (rw c.in-Some.is at c.in_ok-number.ensures) (rw (to_z-of_z w64 c.in-Some.number fits) at c.in_ok-integer-in-Some.ensures.ok) c.in_ok-integer-in-Some.ensures.node c.make_equal.new.memory)
     c.make_equal.ensures

@@ -1,5 +1,5 @@
 use Rattle.std.proofs.lemmas.Result.{IfOk-weaker}
-use Rattle.mars_memory.specs.Found.{IsSettled}
+use Rattle.mars_memory.specs.Found.{IsAlternativeSettled}
 use Rattle.mars_memory.specs.BuiltInsInside.{IsMadeEqual}
 use Rattle.mars_memory.proofs.Equalled.{pair-written, made-equal, made-apart}
 use Rattle.mars_memory.proofs.built_ins.make_equal.Goals as goal
@@ -15,7 +15,7 @@ returns-in-No c =
 
 pub returns-in-Yes : goal.returns-in-Yes
 returns-in-Yes c =
-    IfOk-weaker c.settle.result (IsSettled c.unify.new.self c.args.rest c.settle.new.memory) (IsMadeEqual c.args.memory.now c.args.rest c.args.left c.args.right c.settle.new.memory)
+    IfOk-weaker c.settle.result (IsAlternativeSettled c.unify.new.self c.args.rest c.settle.new.memory) (IsMadeEqual c.args.memory.now c.args.rest c.args.left c.args.right c.settle.new.memory)
     (made-equal c.args.memory.now c.unify.new.self c.args.rest c.args.left c.args.right c.in-Yes.bound c.unify.ensures.others c.unify.ensures.system
     (rw c.in-Yes.is at c.in_ok-unify.ensures.solved) (rw c.in-Yes.is at c.in_ok-unify.ensures.extends) c.settle.new.memory)
     c.settle.ensures

@@ -4,7 +4,7 @@ use Rattle.mars_machine.specs.declared.ending.Ending.{Ending}
 use Rattle.mars_machine.specs.Machines.{SeenMachine, TellsLeft}
 use Rattle.mars_session.specs.Lines.{told_line, told_answer}
 use Rattle.mars_session.specs.AskEvents.{AskEvent, IsStepEvent}
-use Rattle.mars_session.specs.AskingInside.{IsAsking, ending_at, counted_answer, end_text, event_seen}
+use Rattle.mars_session.specs.AskingInside.{IsAskGoing, ending_at, counted_answer, end_text, event_seen}
 use Rattle.mars_session.proofs.AskSteps.{stepped_on, found_event, after_step, step_event, asks_on}
 use Rattle.mars_session.proofs.asking.step_ask.Goals as goal
 
@@ -42,6 +42,6 @@ returns-clause-on c none =
     let steps : c.steps-steps.result ≡ m.steps + 1 = c.steps-steps.ensures ∙ ap (λ (x : SeenMachine). x.steps) on in
     let o_is : o ≡ ending_at m.ask.most (counted_answer answers (told_answer stepped)) c.left-left.result (m.steps + 1) c.args.budget =
     c.ending_at-ending.ensures ∙ (λ i. ending_at (c.requires.most i) (counted i) c.left-left.result (steps i) c.args.budget) in
-    subst (λ (x : SeenMachine). IsAsking c.args.budget x c.in_ok-asking.field-0) (sym on)
-    (subst (λ (n : ℕ). IsAsking c.args.budget (stepped_on m) n) (sym counted)
+    subst (λ (x : SeenMachine). IsAskGoing c.args.budget x c.in_ok-asking.field-0) (sym on)
+    (subst (λ (n : ℕ). IsAskGoing c.args.budget (stepped_on m) n) (sym counted)
     (asks_on c.args.names.now c.args.budget m answers stepped c.left-left.result c.requires.runs c.in_ok-stepped.ensures.told left o o_is (sym c.in_ok-ends.ensures.ends ∙ none)))

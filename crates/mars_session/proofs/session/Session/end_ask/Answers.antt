@@ -5,7 +5,7 @@ use Rattle.mars_session.specs.declared.session.Session.TheInside.{Inside}
 use Rattle.mars_session.specs.TextSeen.{text_with, text_done}
 use Rattle.mars_session.specs.SessionEvents.{stepped_by, later_answer}
 use Rattle.mars_session.specs.SessionSeen.{SessionSeen, MovesOn}
-use Rattle.mars_session.specs.AskingInside.{event_seen, canon_of}
+use Rattle.mars_session.specs.AskingInside.{event_seen, answer_canon}
 use Rattle.mars_session.specs.NextInside.{AsksNext}
 use Rattle.mars_session.specs.SessionInside.{part_in, point_in, seen_in}
 use Rattle.mars_session.proofs.Turning.{kept_done, reached_on, one_on, ask_ended}
@@ -19,8 +19,8 @@ invariant_of-self-2 c =
     let ask = c.args.ask.now in
     let next : AsksNext (seen_in p) ask e = subst (λ (s : SessionSeen). AsksNext s ask e) (sym c.self.view_is) c.requires.next in
     let text : c.end.new.self ≡ text_done (text_with p.text e.text.items) = c.end.ensures ∙ ap text_done (c.in_ok-push.ensures.ok ∙ ap (text_with p.text) c.deref.ensures.value) in
-    let answer : canon_of c.later.result ≡ later_answer (canon_of p.answer) (canon_of e.answer) = c.later.ensures ∙ ap (λ (o : Option Answer). later_answer (canon_of o) (canon_of e.answer)) c.take-earlier.ensures.value in
-    let none : canon_of c.take-earlier.new.self ≡ None = ap canon_of c.take-earlier.ensures.after in
+    let answer : answer_canon c.later.result ≡ later_answer (answer_canon p.answer) (answer_canon e.answer) = c.later.ensures ∙ ap (λ (o : Option Answer). later_answer (answer_canon o) (answer_canon e.answer)) c.take-earlier.ensures.value in
+    let none : answer_canon c.take-earlier.new.self ≡ None = ap answer_canon c.take-earlier.ensures.after in
     let to : point_in q ≡ stepped_by true ask.vars (event_seen e) (point_in p) = λ i. record {
       done = one_on p.done i;
       steps = 0;
@@ -41,8 +41,8 @@ returns-clause-ok c =
     let ask = c.args.ask.now in
     let next : AsksNext (seen_in p) ask e = subst (λ (s : SessionSeen). AsksNext s ask e) (sym c.self.view_is) c.requires.next in
     let text : c.end.new.self ≡ text_done (text_with p.text e.text.items) = c.end.ensures ∙ ap text_done (c.in_ok-push.ensures.ok ∙ ap (text_with p.text) c.deref.ensures.value) in
-    let answer : canon_of c.later.result ≡ later_answer (canon_of p.answer) (canon_of e.answer) = c.later.ensures ∙ ap (λ (o : Option Answer). later_answer (canon_of o) (canon_of e.answer)) c.take-earlier.ensures.value in
-    let none : canon_of c.take-earlier.new.self ≡ None = ap canon_of c.take-earlier.ensures.after in
+    let answer : answer_canon c.later.result ≡ later_answer (answer_canon p.answer) (answer_canon e.answer) = c.later.ensures ∙ ap (λ (o : Option Answer). later_answer (answer_canon o) (answer_canon e.answer)) c.take-earlier.ensures.value in
+    let none : answer_canon c.take-earlier.new.self ≡ None = ap answer_canon c.take-earlier.ensures.after in
     let to : point_in q ≡ stepped_by true ask.vars (event_seen e) (point_in p) = λ i. record {
       done = one_on p.done i;
       steps = 0;
