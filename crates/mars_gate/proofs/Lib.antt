@@ -1,0 +1,10 @@
+pub mod EntryLemmas
+pub mod WorkerLemmas
+pub mod PassLemmas
+pub mod ListLemmas
+pub mod CloseLemmas
+pub mod ClosingLemmas
+pub mod FinishLemmas
+pub mod HireLemmas
+pub mod EndLemmas
+pub mod JobLemmas

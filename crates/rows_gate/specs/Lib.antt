@@ -1,0 +1,2 @@
+-- For the program's own functions.
+pub mod Keepers
