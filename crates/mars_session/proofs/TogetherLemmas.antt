@@ -35,7 +35,7 @@ restart_acts p command.Count act a = a
 pub restart_wants : (part : SessionPart) (p : SessionPoint) (call : Call) → WantsCall part p call → WantsCall part (restarted p) call
 restart_wants part p call w = record { command = w.command; is_next = w.is_next; wish = w.wish; acts = restart_acts p w.command (Uses w.wish) w.acts; call_is = w.call_is }
 
-taken_mine : (old new : SessionSeen) (call : Call) (reply : Reply) → TakesReply old call reply new → new.point.mine ≡ old.point.mine ++ call_entry old.part.who call reply ∷ []
+pub taken_mine : (old new : SessionSeen) (call : Call) (reply : Reply) → TakesReply old call reply new → new.point.mine ≡ old.point.mine ++ call_entry old.part.who call reply ∷ []
 taken_mine old new call reply t = ap (λ (s : SessionSeen). s.point.mine) t.new_is ∙ ap (λ (c : Call). old.point.mine ++ call_entry old.part.who c reply ∷ []) (sym t.wants.call_is)
 
 pub events_keep_entries : EventsKeepEntries

@@ -1,4 +1,5 @@
 //! Laws of sessions, whole runs and schedules.
+ghost use Rattle.mars_session.specs.DoorLaws.{EventIsOfTheWorld};
 ghost use Rattle.mars_session.specs.SessionLaws.{EventIsOne, AloneIsOne, AloneGrows, CallsAreAllowed, TextsGrow, AskWritesItsText, EventsAdvance};
 ghost use Rattle.mars_session.specs.SessionRows.{SessionRows};
 ghost use Rattle.mars_session.specs.Together.{EventsKeepEntries, TogetherTheyAreWhole, UncutIsWhole};
@@ -72,6 +73,11 @@ pub fn whole_goes_on()
 /// Each event over a door keeps what a session's point says of its entries.
 pub fn events_keep_entries()
     ensures { EventsKeepEntries }
+{}
+
+/// An event of a session over the table's own door is an event of the world.
+pub fn event_is_of_the_world()
+    ensures { EventIsOfTheWorld }
 {}
 
 /// What sessions did, each over a door of its own, is a whole run, with those cut that were cut.
