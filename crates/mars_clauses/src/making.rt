@@ -25,7 +25,7 @@ pub struct ClauseMaking {
     pub(crate) head: Option<Term>,
     pub(crate) goals: Goals,
     /// The innermost last.
-    pub(crate) rows: Items<OpenTerm>,
+    pub(crate) rows: Vec<OpenTerm>,
 }
 
 /// A number of answers.
@@ -48,7 +48,7 @@ impl ClauseMaking {
             kept: Items::new(alloc),
             head: None,
             goals: Items::new(alloc),
-            rows: Items::new(alloc),
+            rows: Vec::new(alloc),
         }
     }
 
@@ -64,12 +64,8 @@ impl ClauseMaking {
     fn give(&mut self, term: Term) -> Result<(), NoMemory>
         ensures { OnOk result (clause_of self.new ≡ told.given term (clause_of self.old)) }
     {
-        match self.rows.pop() {
-            Some(row) => {
-                let OpenTerm { opening, mut terms } = row;
-                terms.push(term)?;
-                self.rows.push(OpenTerm { opening, terms })?;
-            }
+        match self.rows.last_mut() {
+            Some(row) => row.terms.push(term)?,
             None => self.goals.push(Goal::Call(term))?,
         }
         Ok(())
@@ -98,10 +94,8 @@ impl ClauseMaking {
     fn pair(&mut self) -> Result<(), NoMemory>
         ensures { OnOk result (clause_of self.new ≡ told.paired_in (clause_of self.old).rows (clause_of self.old)) }
     {
-        if let Some(row) = self.rows.pop() {
-            let OpenTerm { opening, mut terms } = row;
-            pair(self.alloc, &mut terms)?;
-            self.rows.push(OpenTerm { opening, terms })?;
+        if let Some(row) = self.rows.last_mut() {
+            pair(self.alloc, &mut row.terms)?;
         }
         Ok(())
     }

@@ -1,7 +1,7 @@
 // The grammar: each symbol with its forms, a row an alternative.
-ghost use Rattle.std.specs.Prelude.{◌≡◌, slice_get};
+ghost use Rattle.std.specs.Prelude.{◌≡◌, slice_get, None};
 ghost use Rattle.std.specs.Option.{option_copied};
-ghost use Rattle.mars_grammar.specs.Rows.{borrowed_rows, borrowed_entry, first_row};
+ghost use Rattle.mars_grammar.specs.Rows.{borrowed_rows, borrowed_entry, first_row, form_if};
 ghost use Rattle.mars_forms.specs.Table as told;
 ghost use Rattle.mars_forms.specs.TableTest as tested;
 
@@ -259,7 +259,32 @@ fn entry_of(symbol: FormSymbol) -> &'static SymbolEntry
     &FORMS[symbol as usize]
 }
 
-/// What is due after a token of this kind, by the first row that begins with it.
+/// What is due after a row's token, where the token is there.
+fn due_if(begins: bool, due: &'static [FormSymbol]) -> Option<&'static [FormSymbol]>
+    ensures { option_copied result ≡ form_if begins due.now None }
+{
+    if begins { Some(due) } else { None }
+}
+
+/// What is due after a token of this kind, by the first row that begins with it. Most symbols have one row, or none.
+fn row_that_begins(
+    two: bool,
+    rows: &'static [FormRow],
+    kind: TokenKind,
+) -> Option<&'static [FormSymbol]>
+    ensures { option_copied result ≡ first_row (λ trigger. told.begins two trigger kind) (borrowed_rows rows.now) }
+{
+    match rows {
+        [] => None,
+        [row] => match row.0 {
+            Is(wanted) => due_if(kind == wanted, row.1),
+            _ => first_row(two, rows, kind),
+        },
+        _ => first_row(two, rows, kind),
+    }
+}
+
+/// Likewise, of any rows.
 fn first_row(two: bool, rows: &'static [FormRow], kind: TokenKind) -> Option<&'static [FormSymbol]>
     ensures { option_copied result ≡ first_row (λ trigger. told.begins two trigger kind) (borrowed_rows rows.now) }
 {
@@ -291,7 +316,7 @@ impl<const TWO: bool> Grammar for Forms<TWO> {
     }
 
     fn takes(symbol: FormSymbol, kind: TokenKind) -> Option<&'static [FormSymbol]> {
-        first_row(TWO, entry_of(symbol).2, kind)
+        row_that_begins(TWO, entry_of(symbol).2, kind)
     }
 
     fn leaves(symbol: FormSymbol) -> Option<&'static [FormAction]> {
@@ -303,13 +328,19 @@ impl<const TWO: bool> Grammar for Forms<TWO> {
     }
 
     fn pass(kind: TokenKind, mode: FormMode) -> FormMode {
-        match (kind, mode) {
-            (Equals, _) => FormMode::Fresh,
-            (Open, FormMode::Fresh) => FormMode::Fresh,
-            (Variable, FormMode::Fresh) => FormMode::Alone,
-            (Placed, FormMode::Fresh) => FormMode::Alone,
-            (Close, FormMode::Alone) => FormMode::Alone,
-            _ => FormMode::Free,
+        match mode {
+            FormMode::Free => match kind {
+                Equals => FormMode::Fresh,
+                _ => FormMode::Free,
+            },
+            _ => match (kind, mode) {
+                (Equals, _) => FormMode::Fresh,
+                (Open, FormMode::Fresh) => FormMode::Fresh,
+                (Variable, FormMode::Fresh) => FormMode::Alone,
+                (Placed, FormMode::Fresh) => FormMode::Alone,
+                (Close, FormMode::Alone) => FormMode::Alone,
+                _ => FormMode::Free,
+            },
         }
     }
 

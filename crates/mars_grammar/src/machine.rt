@@ -26,10 +26,11 @@ impl<L> From<NoMemory> for Refusal<L> {
 fn push_all<S: Copy + Drop>(stack: &mut Vec<S>, form: &[S]) -> Result<(), NoMemory>
     ensures { OnOk result (reverse stack.new.items ≡ form.now ++ reverse stack.old.items) }
 {
+    stack.reserve(form.len())?;
     let mut i = form.len();
     while i > 0 {
         i -= 1;
-        stack.push(form[i])?;
+        stack.push_reserved(form[i]);
     }
     Ok(())
 }

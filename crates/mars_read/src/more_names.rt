@@ -93,6 +93,7 @@ impl<'a> MoreNames<'a> {
     }
 
     /// The place of a text among those that were there.
+    #[inline(never)]
     fn known_id(&self, text: &[u8]) -> Option<NameId>
         ensures { option_map (λ id. id.0) result ≡ place_of text.now self.now.known }
     {
@@ -112,21 +113,29 @@ impl<'a> MoreNames<'a> {
         }
     }
 
+    /// The place of a text among those that were added, by its hash, which is kept from now on.
+    #[inline(never)]
+    fn hashed_index_of(&mut self, text: &[u8]) -> Option<usize>
+        ensures place { result ≡ place_of text.now self.old.added }
+        ensures same { self.new ≡ self.old }
+    {
+        let found = self.added.get_index_of(text);
+        if let Some(index) = found {
+            self.recent[slot_of(text)] = short_number(index);
+        }
+        found
+    }
+
     /// The place of a text among those that were added.
     fn index_of(&mut self, text: &[u8]) -> Option<usize>
         ensures place { result ≡ place_of text.now self.old.added }
         ensures same { self.new ≡ self.old }
     {
-        let slot = slot_of(text);
-        let index = self.recent[slot] as usize;
+        let index = self.recent[slot_of(text)] as usize;
         if self.is_at(index, text) {
             return Some(index);
         }
-        let found = self.added.get_index_of(text);
-        if let Some(index) = found {
-            self.recent[slot] = short_number(index);
-        }
-        found
+        self.hashed_index_of(text)
     }
 
     /// Puts a new text last.
