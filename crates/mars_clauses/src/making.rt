@@ -53,6 +53,7 @@ impl ClauseMaking {
     }
 
     /// A rule or an ask begins.
+    #[inline(never)]
     fn begin(&mut self, asking: bool)
         ensures { clause_of self.new ≡ told.begun asking [] }
     {
@@ -130,6 +131,7 @@ impl ClauseMaking {
     }
 
     /// A token of a goal or a term.
+    #[inline(always)]
     fn part(&mut self, token: ValuedToken) -> Result<(), NoMemory>
         ensures { OnOk result (clause_of self.new ≡ told.with_part token.kind token (clause_of self.old)) }
     {
@@ -148,6 +150,7 @@ impl ClauseMaking {
     }
 
     /// A token that a symbol takes.
+    #[inline(always)]
     pub fn read(&mut self, symbol: FormSymbol, token: ValuedToken) -> Result<(), NoMemory>
         ensures { OnOk result (clause_of self.new ≡ told.clause_read symbol token (clause_of self.old)) }
     {

@@ -76,8 +76,8 @@ pub static FORMS: [SymbolEntry; 44] = [
         Term,
         NEEDED,
         &[
-            (Is(Variable), &[Tail]),
             (Name, &[Arguments, Apply, Tail]),
+            (Is(Variable), &[Tail]),
             (Is(Integer), &[Tail]),
             (InTwo(Text), &[Tail]),
             (Is(Less), &[Term, Row, OneGreater, Apply, Tail]),
@@ -133,8 +133,8 @@ pub static FORMS: [SymbolEntry; 44] = [
         AskTerm,
         NEEDED,
         &[
-            (Is(Variable), &[AskTail]),
             (Name, &[AskArguments, Apply, AskTail]),
+            (Is(Variable), &[AskTail]),
             (Is(Integer), &[AskTail]),
             (InTwo(Text), &[AskTail]),
             (Is(Less), &[AskTerm, AskRow, OneGreater, Apply, AskTail]),
@@ -155,9 +155,9 @@ pub static FORMS: [SymbolEntry; 44] = [
         PutTerm,
         NEEDED,
         &[
+            (Name, &[PutArguments, Apply, PutTail]),
             (Is(Variable), &[PutTail]),
             (Is(Placed), &[PutTail]),
-            (Name, &[PutArguments, Apply, PutTail]),
             (Is(Integer), &[PutTail]),
             (InTwo(Text), &[PutTail]),
             (Is(Less), &[PutTerm, PutRow, OneGreater, Apply, PutTail]),
@@ -195,9 +195,9 @@ pub static FORMS: [SymbolEntry; 44] = [
         DefinedTerm,
         NEEDED,
         &[
+            (Name, &[PutArguments, Apply, PutTail]),
             (Is(Variable), &[OneDot, PutTerm, Pair]),
             (Is(Placed), &[OneDot, PutTerm, Pair]),
-            (Name, &[PutArguments, Apply, PutTail]),
             (Is(Integer), &[PutTail]),
             (InTwo(Text), &[PutTail]),
             (Is(Less), &[PutTerm, PutRow, OneGreater, Apply, PutTail]),
@@ -228,6 +228,7 @@ pub static FORMS: [SymbolEntry; 44] = [
 pub struct Forms<const TWO: bool>;
 
 /// Whether a row begins with a token of this kind.
+#[inline(always)]
 fn begins(two: bool, trigger: Trigger, kind: TokenKind) -> bool
     ensures { result ≡ told.begins two trigger kind }
 {
@@ -260,6 +261,7 @@ fn entry_of(symbol: FormSymbol) -> &'static SymbolEntry
 }
 
 /// What is due after a row's token, where the token is there.
+#[inline(always)]
 fn due_if(begins: bool, due: &'static [FormSymbol]) -> Option<&'static [FormSymbol]>
     ensures { option_copied result ≡ form_if begins due.now None }
 {
@@ -267,6 +269,7 @@ fn due_if(begins: bool, due: &'static [FormSymbol]) -> Option<&'static [FormSymb
 }
 
 /// What is due after a token of this kind, by the first row that begins with it. Most symbols have one row, or none.
+#[inline(always)]
 fn row_that_begins(
     two: bool,
     rows: &'static [FormRow],
@@ -285,6 +288,7 @@ fn row_that_begins(
 }
 
 /// Likewise, of any rows.
+#[inline(always)]
 fn first_row(two: bool, rows: &'static [FormRow], kind: TokenKind) -> Option<&'static [FormSymbol]>
     ensures { option_copied result ≡ first_row (λ trigger. told.begins two trigger kind) (borrowed_rows rows.now) }
 {

@@ -104,6 +104,7 @@ impl<'a> MoreNames<'a> {
     }
 
     /// Whether a text was added at this place.
+    #[inline(always)]
     fn is_at(&self, index: usize, text: &[u8]) -> bool
         ensures { IsTrue result → slice_get self.now.added index ≡ Some text.now }
     {
@@ -127,6 +128,7 @@ impl<'a> MoreNames<'a> {
     }
 
     /// The place of a text among those that were added.
+    #[inline(always)]
     fn index_of(&mut self, text: &[u8]) -> Option<usize>
         ensures place { result ≡ place_of text.now self.old.added }
         ensures same { self.new ≡ self.old }
@@ -139,6 +141,7 @@ impl<'a> MoreNames<'a> {
     }
 
     /// Puts a new text last.
+    #[inline(never)]
     fn add(&mut self, text: &[u8]) -> Result<NameId, NoMemory>
         requires new { place_of text.now (joined_names self.old) ≡ None }
         ensures place { IfOk result (λ id. id.0 ≡ in_32_bits (length (joined_names self.old))) }
@@ -151,6 +154,7 @@ impl<'a> MoreNames<'a> {
     }
 
     /// The number of a text in 32 bits, `None` exactly where it isn't listed.
+    #[inline(always)]
     fn find(&mut self, text: &[u8]) -> Option<NameId>
         ensures number { option_map (λ id. id.0) result ≡ option_map in_32_bits (place_of text.now (joined_names self.old)) }
         ensures same { self.new ≡ self.old }
