@@ -1,6 +1,5 @@
 -- How what is due in the code goes along with the machine's stack.
-use Rattle.std.proofs.Common.{◌≡◌, List, [], ◌∷◌, ◌++◌, reverse, ap, sym, ◌∙◌, Option, Some, None, Bool, true, false, length, arith}
-use Rattle.std.proofs.lemmas.List.{reverse-append}
+use Rattle.std.proofs.Common.{◌≡◌, List, [], ◌∷◌, ◌++◌, ap, sym, ◌∙◌, Option, Some, None, Bool, true, false, length, arith}
 use Rattle.std.specs.Prelude.{Err}
 use Rattle.mars_grammar.specs.FormTable.{FormTable, Event, Read, said_events, leaves_in}
 use Rattle.mars_grammar.specs.Building.{Build, performs, Syntax, Over}
