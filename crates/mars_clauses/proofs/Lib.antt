@@ -1,3 +1,4 @@
+mod LastRow
 mod PartFacts
 mod VarFacts
 mod WellFormedLemmas

@@ -5,4 +5,4 @@ use Rattle.mars_clauses.specs.Terms.{Unfinished}
 
 -- the code has the innermost open name or tuple last
 abbrev pub clause_of : ClauseMaking → Unfinished
-clause_of s = record { asking = s.asking; most = s.most; vars = s.vars; kept = s.kept; head = s.head; goals = s.goals; rows = reverse s.rows }
+clause_of s = record { asking = s.asking; most = s.most; vars = s.vars; kept = s.kept; head = s.head; goals = s.goals; rows = reverse s.rows.items }

@@ -122,6 +122,7 @@ impl InputCounts {
     }
 
     /// The limit that a token passes.
+    #[inline(always)]
     fn passed(&self, symbol: FormSymbol, token: ValuedToken) -> Option<OverLimit>
         ensures { result ≡ told.passed symbol token self.now }
     {
@@ -197,6 +198,31 @@ impl InputCounts {
         Ok(())
     }
 
+    /// Counts a token that a symbol takes, with the limit that it passes. Most tokens are commas, or no written nodes.
+    fn note(&mut self, symbol: FormSymbol, token: ValuedToken) -> Result<(), NoMemory>
+        ensures { OnOk result (self.new ≡ told.counted symbol token (told.with_over (told.passed symbol token self.old) self.old)) }
+    {
+        match symbol {
+            FormSymbol::HeadRow | FormSymbol::Row | FormSymbol::AskRow | FormSymbol::PutRow => {
+                self.over = self.passed(symbol, token);
+            }
+            FormSymbol::HeadArguments
+            | FormSymbol::Arguments
+            | FormSymbol::AskArguments
+            | FormSymbol::PutTerm
+            | FormSymbol::PutArguments
+            | FormSymbol::PutTail
+            | FormSymbol::DefinedTerm
+            | FormSymbol::OneClose
+            | FormSymbol::OneGreater => self.over = None,
+            _ => {
+                self.over = self.passed(symbol, token);
+                self.count(symbol, token)?;
+            }
+        }
+        Ok(())
+    }
+
     /// Counts the arguments in brackets.
     fn bracket(&mut self, kind: TokenKind) -> Result<(), NoMemory>
         ensures { OnOk result (self.new ≡ told.in_brackets kind self.old) }
@@ -238,8 +264,7 @@ impl Maker for InputCounts {
     ghost build = { told.counting };
 
     fn read(&mut self, symbol: FormSymbol, token: ValuedToken) -> Result<(), NoMemory> {
-        self.over = self.passed(symbol, token);
-        self.count(symbol, token)?;
+        self.note(symbol, token)?;
         self.bracket(token.kind)
     }
 

@@ -25,7 +25,7 @@ pub struct ClauseMaking {
     pub(crate) head: Option<Term>,
     pub(crate) goals: Goals,
     /// The innermost last.
-    pub(crate) rows: Items<OpenTerm>,
+    pub(crate) rows: Vec<OpenTerm>,
 }
 
 /// A number of answers.
@@ -48,11 +48,12 @@ impl ClauseMaking {
             kept: Items::new(alloc),
             head: None,
             goals: Items::new(alloc),
-            rows: Items::new(alloc),
+            rows: Vec::new(alloc),
         }
     }
 
     /// A rule or an ask begins.
+    #[inline(never)]
     fn begin(&mut self, asking: bool)
         ensures { clause_of self.new ≡ told.begun asking [] }
     {
@@ -64,12 +65,8 @@ impl ClauseMaking {
     fn give(&mut self, term: Term) -> Result<(), NoMemory>
         ensures { OnOk result (clause_of self.new ≡ told.given term (clause_of self.old)) }
     {
-        match self.rows.pop() {
-            Some(row) => {
-                let OpenTerm { opening, mut terms } = row;
-                terms.push(term)?;
-                self.rows.push(OpenTerm { opening, terms })?;
-            }
+        match self.rows.last_mut() {
+            Some(row) => row.terms.push(term)?,
             None => self.goals.push(Goal::Call(term))?,
         }
         Ok(())
@@ -98,10 +95,8 @@ impl ClauseMaking {
     fn pair(&mut self) -> Result<(), NoMemory>
         ensures { OnOk result (clause_of self.new ≡ told.paired_in (clause_of self.old).rows (clause_of self.old)) }
     {
-        if let Some(row) = self.rows.pop() {
-            let OpenTerm { opening, mut terms } = row;
-            pair(self.alloc, &mut terms)?;
-            self.rows.push(OpenTerm { opening, terms })?;
+        if let Some(row) = self.rows.last_mut() {
+            pair(self.alloc, &mut row.terms)?;
         }
         Ok(())
     }
@@ -136,6 +131,7 @@ impl ClauseMaking {
     }
 
     /// A token of a goal or a term.
+    #[inline(always)]
     fn part(&mut self, token: ValuedToken) -> Result<(), NoMemory>
         ensures { OnOk result (clause_of self.new ≡ told.with_part token.kind token (clause_of self.old)) }
     {
@@ -154,6 +150,7 @@ impl ClauseMaking {
     }
 
     /// A token that a symbol takes.
+    #[inline(always)]
     pub fn read(&mut self, symbol: FormSymbol, token: ValuedToken) -> Result<(), NoMemory>
         ensures { OnOk result (clause_of self.new ≡ told.clause_read symbol token (clause_of self.old)) }
     {

@@ -1,7 +1,7 @@
 // The grammar: each symbol with its forms, a row an alternative.
-ghost use Rattle.std.specs.Prelude.{◌≡◌, slice_get};
+ghost use Rattle.std.specs.Prelude.{◌≡◌, slice_get, None};
 ghost use Rattle.std.specs.Option.{option_copied};
-ghost use Rattle.mars_grammar.specs.Rows.{borrowed_rows, borrowed_entry, first_row};
+ghost use Rattle.mars_grammar.specs.Rows.{borrowed_rows, borrowed_entry, first_row, form_if};
 ghost use Rattle.mars_forms.specs.Table as told;
 ghost use Rattle.mars_forms.specs.TableTest as tested;
 
@@ -76,8 +76,8 @@ pub static FORMS: [SymbolEntry; 44] = [
         Term,
         NEEDED,
         &[
-            (Is(Variable), &[Tail]),
             (Name, &[Arguments, Apply, Tail]),
+            (Is(Variable), &[Tail]),
             (Is(Integer), &[Tail]),
             (InTwo(Text), &[Tail]),
             (Is(Less), &[Term, Row, OneGreater, Apply, Tail]),
@@ -133,8 +133,8 @@ pub static FORMS: [SymbolEntry; 44] = [
         AskTerm,
         NEEDED,
         &[
-            (Is(Variable), &[AskTail]),
             (Name, &[AskArguments, Apply, AskTail]),
+            (Is(Variable), &[AskTail]),
             (Is(Integer), &[AskTail]),
             (InTwo(Text), &[AskTail]),
             (Is(Less), &[AskTerm, AskRow, OneGreater, Apply, AskTail]),
@@ -155,9 +155,9 @@ pub static FORMS: [SymbolEntry; 44] = [
         PutTerm,
         NEEDED,
         &[
+            (Name, &[PutArguments, Apply, PutTail]),
             (Is(Variable), &[PutTail]),
             (Is(Placed), &[PutTail]),
-            (Name, &[PutArguments, Apply, PutTail]),
             (Is(Integer), &[PutTail]),
             (InTwo(Text), &[PutTail]),
             (Is(Less), &[PutTerm, PutRow, OneGreater, Apply, PutTail]),
@@ -195,9 +195,9 @@ pub static FORMS: [SymbolEntry; 44] = [
         DefinedTerm,
         NEEDED,
         &[
+            (Name, &[PutArguments, Apply, PutTail]),
             (Is(Variable), &[OneDot, PutTerm, Pair]),
             (Is(Placed), &[OneDot, PutTerm, Pair]),
-            (Name, &[PutArguments, Apply, PutTail]),
             (Is(Integer), &[PutTail]),
             (InTwo(Text), &[PutTail]),
             (Is(Less), &[PutTerm, PutRow, OneGreater, Apply, PutTail]),
@@ -228,6 +228,7 @@ pub static FORMS: [SymbolEntry; 44] = [
 pub struct Forms<const TWO: bool>;
 
 /// Whether a row begins with a token of this kind.
+#[inline(always)]
 fn begins(two: bool, trigger: Trigger, kind: TokenKind) -> bool
     ensures { result ≡ told.begins two trigger kind }
 {
@@ -259,7 +260,35 @@ fn entry_of(symbol: FormSymbol) -> &'static SymbolEntry
     &FORMS[symbol as usize]
 }
 
-/// What is due after a token of this kind, by the first row that begins with it.
+/// What is due after a row's token, where the token is there.
+#[inline(always)]
+fn due_if(begins: bool, due: &'static [FormSymbol]) -> Option<&'static [FormSymbol]>
+    ensures { option_copied result ≡ form_if begins due.now None }
+{
+    if begins { Some(due) } else { None }
+}
+
+/// What is due after a token of this kind, by the first row that begins with it. Most symbols have one row, or none.
+#[inline(always)]
+fn row_that_begins(
+    two: bool,
+    rows: &'static [FormRow],
+    kind: TokenKind,
+) -> Option<&'static [FormSymbol]>
+    ensures { option_copied result ≡ first_row (λ trigger. told.begins two trigger kind) (borrowed_rows rows.now) }
+{
+    match rows {
+        [] => None,
+        [row] => match row.0 {
+            Is(wanted) => due_if(kind == wanted, row.1),
+            _ => first_row(two, rows, kind),
+        },
+        _ => first_row(two, rows, kind),
+    }
+}
+
+/// Likewise, of any rows.
+#[inline(always)]
 fn first_row(two: bool, rows: &'static [FormRow], kind: TokenKind) -> Option<&'static [FormSymbol]>
     ensures { option_copied result ≡ first_row (λ trigger. told.begins two trigger kind) (borrowed_rows rows.now) }
 {
@@ -291,7 +320,7 @@ impl<const TWO: bool> Grammar for Forms<TWO> {
     }
 
     fn takes(symbol: FormSymbol, kind: TokenKind) -> Option<&'static [FormSymbol]> {
-        first_row(TWO, entry_of(symbol).2, kind)
+        row_that_begins(TWO, entry_of(symbol).2, kind)
     }
 
     fn leaves(symbol: FormSymbol) -> Option<&'static [FormAction]> {
@@ -303,13 +332,19 @@ impl<const TWO: bool> Grammar for Forms<TWO> {
     }
 
     fn pass(kind: TokenKind, mode: FormMode) -> FormMode {
-        match (kind, mode) {
-            (Equals, _) => FormMode::Fresh,
-            (Open, FormMode::Fresh) => FormMode::Fresh,
-            (Variable, FormMode::Fresh) => FormMode::Alone,
-            (Placed, FormMode::Fresh) => FormMode::Alone,
-            (Close, FormMode::Alone) => FormMode::Alone,
-            _ => FormMode::Free,
+        match mode {
+            FormMode::Free => match kind {
+                Equals => FormMode::Fresh,
+                _ => FormMode::Free,
+            },
+            _ => match (kind, mode) {
+                (Equals, _) => FormMode::Fresh,
+                (Open, FormMode::Fresh) => FormMode::Fresh,
+                (Variable, FormMode::Fresh) => FormMode::Alone,
+                (Placed, FormMode::Fresh) => FormMode::Alone,
+                (Close, FormMode::Alone) => FormMode::Alone,
+                _ => FormMode::Free,
+            },
         }
     }
 

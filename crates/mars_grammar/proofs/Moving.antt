@@ -1,52 +1,48 @@
--- How the code's stack, whose top is last, goes along with the machine's.
-use Rattle.std.proofs.Common.{◌≡◌, List, [], ◌∷◌, ◌++◌, reverse, ap, sym, ◌∙◌, Option, Some, None, Bool, true, false, length, arith}
-use Rattle.std.proofs.lemmas.List.{reverse-append}
+-- How what is due in the code goes along with the machine's stack.
+use Rattle.std.proofs.Common.{◌≡◌, List, [], ◌∷◌, ◌++◌, ap, sym, ◌∙◌, Option, Some, None, Bool, true, false, length, arith}
 use Rattle.std.specs.Prelude.{Err}
 use Rattle.mars_grammar.specs.FormTable.{FormTable, Event, Read, said_events, leaves_in}
 use Rattle.mars_grammar.specs.Building.{Build, performs, Syntax, Over}
 use Rattle.mars_grammar.specs.MachineInside.{State, state, either, token_step, judged, taking, bind, ending, if_some, closed, token_run, Steps, Closes}
 
 module _ {S K T A M V L : Type 0} (G : FormTable S K T A M) (B : Build (Event S T A) V L) where
-  reversed-last : (old new : List S) (s : S) → old ≡ new ++ (s ∷ []) → reverse old ≡ s ∷ reverse new
-  reversed-last old new s e = ap (λ l. reverse l) e ∙ reverse-append new (s ∷ [])
-
-  module _ (t : T) (m : M) (s : S) (old new : List S) (v : V) (last : old ≡ new ++ (s ∷ [])) where
+  module _ (t : T) (m : M) (s : S) (old new : List S) (v : V) (first : old ≡ s ∷ new) where
     abbrev Rest : Option (List S) → Option (List A) → Option (State S M V)
-    Rest o l = either o l (λ form. state (G.pass (G.kind t) m) (form ++ reverse new) (B.perform (Read s t) v)) (λ as'. token_step G B t m (reverse new) (performs B (said_events as') v))
+    Rest o l = either o l (λ form. state (G.pass (G.kind t) m) (form ++ new) (B.perform (Read s t) v)) (λ as'. token_step G B t m new (performs B (said_events as') v))
 
-    token_step-top : token_step G B t m (reverse old) v ≡ Rest (G.takes s (G.kind t)) (leaves_in G m s)
+    token_step-top : token_step G B t m old v ≡ Rest (G.takes s (G.kind t)) (leaves_in G m s)
     unfolding token_step
-    token_step-top = ap (λ k. token_step G B t m k v) (reversed-last old new s last)
+    token_step-top = ap (λ k. token_step G B t m k v) first
 
-    pub token_step-taken : (form stack : List S) (w : V) → G.takes s (G.kind t) ≡ Some form → reverse stack ≡ form ++ reverse new → w ≡ B.perform (Read s t) v →
-        token_step G B t m (reverse old) v ≡ Some (state (G.pass (G.kind t) m) (reverse stack) w)
+    pub token_step-taken : (form stack : List S) (w : V) → G.takes s (G.kind t) ≡ Some form → stack ≡ form ++ new → w ≡ B.perform (Read s t) v →
+        token_step G B t m old v ≡ Some (state (G.pass (G.kind t) m) stack w)
     token_step-taken form stack w e f g = token_step-top ∙ ap (λ o. Rest o (leaves_in G m s)) e
-        ∙ ap (λ k. Some (state (G.pass (G.kind t) m) k (B.perform (Read s t) v))) (sym f) ∙ ap (λ w. Some (state (G.pass (G.kind t) m) (reverse stack) w)) (sym g)
+        ∙ ap (λ k. Some (state (G.pass (G.kind t) m) k (B.perform (Read s t) v))) (sym f) ∙ ap (λ w. Some (state (G.pass (G.kind t) m) stack w)) (sym g)
 
-    pub token_step-left : (as' : List A) (w : V) → G.takes s (G.kind t) ≡ None → leaves_in G m s ≡ Some as' → w ≡ performs B (said_events as') v → token_step G B t m (reverse old) v ≡ token_step G B t m (reverse new) w
-    token_step-left as' w e f g = token_step-top ∙ ap (λ o. Rest o (leaves_in G m s)) e ∙ ap (λ l. Rest None l) f ∙ ap (λ w. token_step G B t m (reverse new) w) (sym g)
+    pub token_step-left : (as' : List A) (w : V) → G.takes s (G.kind t) ≡ None → leaves_in G m s ≡ Some as' → w ≡ performs B (said_events as') v → token_step G B t m old v ≡ token_step G B t m new w
+    token_step-left as' w e f g = token_step-top ∙ ap (λ o. Rest o (leaves_in G m s)) e ∙ ap (λ l. Rest None l) f ∙ ap (λ w. token_step G B t m new w) (sym g)
 
-    pub token_step-none : G.takes s (G.kind t) ≡ None → leaves_in G m s ≡ None → token_step G B t m (reverse old) v ≡ None
+    pub token_step-none : G.takes s (G.kind t) ≡ None → leaves_in G m s ≡ None → token_step G B t m old v ≡ None
     token_step-none e f = token_step-top ∙ ap (λ o. Rest o (leaves_in G m s)) e ∙ ap (λ l. Rest None l) f
 
-  pub token_step-empty : (t : T) (m : M) (stack : List S) (v : V) → stack ≡ [] → token_step G B t m (reverse stack) v ≡ None
+  pub token_step-empty : (t : T) (m : M) (stack : List S) (v : V) → stack ≡ [] → token_step G B t m stack v ≡ None
   unfolding token_step
-  token_step-empty t m stack v e = ap (λ k. token_step G B t m (reverse k) v) e
+  token_step-empty t m stack v e = ap (λ k. token_step G B t m k v) e
 
-  module _ (m : M) (s : S) (old new : List S) (v : V) (last : old ≡ new ++ (s ∷ [])) where
-    closed-top : closed G B m (reverse old) v ≡ if_some (leaves_in G m s) (λ as'. closed G B m (reverse new) (performs B (said_events as') v))
+  module _ (m : M) (s : S) (old new : List S) (v : V) (first : old ≡ s ∷ new) where
+    closed-top : closed G B m old v ≡ if_some (leaves_in G m s) (λ as'. closed G B m new (performs B (said_events as') v))
     unfolding closed
-    closed-top = ap (λ k. closed G B m k v) (reversed-last old new s last)
+    closed-top = ap (λ k. closed G B m k v) first
 
-    pub closed-left : (as' : List A) (w : V) → leaves_in G m s ≡ Some as' → w ≡ performs B (said_events as') v → closed G B m (reverse old) v ≡ closed G B m (reverse new) w
-    closed-left as' w f g = closed-top ∙ ap (λ l. if_some l (λ as'. closed G B m (reverse new) (performs B (said_events as') v))) f ∙ ap (λ w. closed G B m (reverse new) w) (sym g)
+    pub closed-left : (as' : List A) (w : V) → leaves_in G m s ≡ Some as' → w ≡ performs B (said_events as') v → closed G B m old v ≡ closed G B m new w
+    closed-left as' w f g = closed-top ∙ ap (λ l. if_some l (λ as'. closed G B m new (performs B (said_events as') v))) f ∙ ap (λ w. closed G B m new w) (sym g)
 
-    pub closed-none : leaves_in G m s ≡ None → closed G B m (reverse old) v ≡ None
-    closed-none f = closed-top ∙ ap (λ l. if_some l (λ as'. closed G B m (reverse new) (performs B (said_events as') v))) f
+    pub closed-none : leaves_in G m s ≡ None → closed G B m old v ≡ None
+    closed-none f = closed-top ∙ ap (λ l. if_some l (λ as'. closed G B m new (performs B (said_events as') v))) f
 
-  pub closed-empty : (m : M) (stack : List S) (v : V) → stack ≡ [] → closed G B m (reverse stack) v ≡ Some v
+  pub closed-empty : (m : M) (stack : List S) (v : V) → stack ≡ [] → closed G B m stack v ≡ Some v
   unfolding closed
-  closed-empty m stack v e = ap (λ k. closed G B m (reverse k) v) e
+  closed-empty m stack v e = ap (λ k. closed G B m k v) e
 
   module _ (t : T) (tokens rest : List T) (s : State S M V) (whole : tokens ≡ t ∷ rest) where
     token_run-top : (o : Option (State S M V)) → token_step G B t s.mode s.stack s.built ≡ o → token_run G B tokens s ≡ bind (taking B o (length (t ∷ rest))) (λ next. token_run G B rest next)

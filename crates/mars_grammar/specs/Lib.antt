@@ -4,5 +4,6 @@ pub mod Rows
 pub mod Testing
 pub mod Building
 pub mod Refusing
--- Inside: the machine's own steps, promised to nobody.
+-- Inside: the machine's own steps, and how it keeps what is due, promised to nobody.
+pub mod DueInside
 pub mod MachineInside

@@ -1,5 +1,5 @@
-// The machine: one loop over the tokens, with a stack of what is due.
-ghost use Rattle.std.specs.Prelude.{◌≡◌, List, [], ◌∷◌, ◌++◌, ◌<◌, ◌≤◌, length, reverse, Option, Some, None, IfOk, IfErr, OnOk, true};
+// The machine: one loop over the tokens, with what is due.
+ghost use Rattle.std.specs.Prelude.{◌≡◌, List, [], ◌∷◌, ◌++◌, ◌<◌, ◌≤◌, length, Option, Some, None, IfOk, IfErr, OnOk, true};
 ghost use Rattle.std.specs.Option.{option_copied};
 ghost use Rattle.mars_grammar.specs.FormTable.{said_events, leaves_in};
 ghost use Rattle.mars_grammar.specs.Testing.{starts};
@@ -8,6 +8,7 @@ ghost use Rattle.mars_grammar.specs.MachineInside.{token_step, closed, Steps, Cl
 ghost use Rattle.mars_grammar.specs.Refusing.{IsMade, HasNoFault, IsRefused};
 
 use crate::Refusal;
+use crate::due::Due;
 use crate::grammar::{Builder, Grammar};
 use mars_base::NoMemory;
 use std::alloc::Global;
@@ -20,18 +21,6 @@ impl<L> From<NoMemory> for Refusal<L> {
     fn from(_: NoMemory) -> Refusal<L> {
         Refusal::NoMemory
     }
-}
-
-/// Puts symbols onto the stack, the first on top.
-fn push_all<S: Copy + Drop>(stack: &mut Vec<S>, form: &[S]) -> Result<(), NoMemory>
-    ensures { OnOk result (reverse stack.new.items ≡ form.now ++ reverse stack.old.items) }
-{
-    let mut i = form.len();
-    while i > 0 {
-        i -= 1;
-        stack.push(form[i])?;
-    }
-    Ok(())
 }
 
 /// What a builder is told, one after the other.
@@ -60,18 +49,18 @@ fn leaves_in<G: Grammar>(mode: G::Mode, symbol: G::Symbol) -> Option<&'static [G
 
 /// Goes over one token; `false` where nothing that is due takes it.
 fn advance<G: Grammar, B: Builder<G>>(
-    stack: &mut Vec<G::Symbol>,
+    due: &mut Due<G::Symbol>,
     builder: &mut B,
     mode: G::Mode,
     token: G::Token,
 ) -> Result<bool, NoMemory>
-    ensures { IfOk result (λ b. Steps b (token_step G.table B.build token mode (reverse stack.old.items) (B.view builder.old))
-        (G.table.pass (G.table.kind token) mode) (reverse stack.new.items) (B.view builder.new)) }
+    ensures { IfOk result (λ b. Steps b (token_step G.table B.build token mode due.old (B.view builder.old))
+        (G.table.pass (G.table.kind token) mode) due.new (B.view builder.new)) }
 {
-    while let Some(symbol) = stack.pop() {
+    while let Some(symbol) = due.next() {
         if let Some(form) = G::takes(symbol, G::kind(token)) {
             builder.read(symbol, token)?;
-            push_all(stack, form)?;
+            due.push(form)?;
             return Ok(true);
         }
         let Some(told) = leaves_in::<G>(mode, symbol) else {
@@ -84,13 +73,13 @@ fn advance<G: Grammar, B: Builder<G>>(
 
 /// Leaves out all that is due, if that can be.
 fn close<G: Grammar, B: Builder<G>>(
-    stack: &mut Vec<G::Symbol>,
+    due: &mut Due<G::Symbol>,
     builder: &mut B,
     mode: G::Mode,
 ) -> Result<bool, NoMemory>
-    ensures { IfOk result (λ b. Closes b (closed G.table B.build mode (reverse stack.old.items) (B.view builder.old)) (B.view builder.new)) }
+    ensures { IfOk result (λ b. Closes b (closed G.table B.build mode due.old (B.view builder.old)) (B.view builder.new)) }
 {
-    while let Some(symbol) = stack.pop() {
+    while let Some(symbol) = due.next() {
         let Some(told) = leaves_in::<G>(mode, symbol) else {
             return Ok(false);
         };
@@ -111,12 +100,11 @@ pub fn parse<G: Grammar, B: Builder<G>>(
     ensures within { OnOk result (HasNoFault G.table B.build start.now (B.view builder.old) tokens.now) }
     ensures refused { IfErr result (λ e. IsRefused G.table B.build start.now (B.view builder.old) tokens.now e) }
 {
-    let mut stack = Vec::new(alloc);
-    push_all(&mut stack, start)?;
+    let mut due = Due::new(alloc, start);
     let mut mode = G::free();
     let mut rest = tokens;
     while let Some((next, after)) = rest.split_first() {
-        if !advance::<G, B>(&mut stack, builder, mode, *next)? {
+        if !advance::<G, B>(&mut due, builder, mode, *next)? {
             return Err(Refusal::Syntax { left: rest.len() });
         }
         if let Some(limit) = builder.refuses() {
@@ -128,7 +116,7 @@ pub fn parse<G: Grammar, B: Builder<G>>(
         mode = G::pass(G::kind(*next), mode);
         rest = after;
     }
-    if close::<G, B>(&mut stack, builder, mode)? {
+    if close::<G, B>(&mut due, builder, mode)? {
         Ok(())
     } else {
         Err(Refusal::Syntax { left: 0 })

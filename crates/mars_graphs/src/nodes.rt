@@ -69,6 +69,7 @@ impl NodeMaker {
     }
 
     /// A leaf for a new variable.
+    #[inline(never)]
     fn add_variable(&mut self, name: NameId) -> Result<usize, NoMemory>
         requires { leaf_of_variable self.old name ≡ None }
         ensures leaf { IfOk result (λ n. leaf_of_variable self.new name ≡ Some n) }
@@ -85,6 +86,7 @@ impl NodeMaker {
     }
 
     /// A node with a label and kids, which are older nodes.
+    #[inline(always)]
     pub(crate) fn apply(&mut self, label: Label, kids: &[usize]) -> Result<usize, NoMemory>
         requires arity { length kids.now ≡ arity_of label }
         requires kids_in { All (λ kid. kid < length self.old.nodes) kids.now }

@@ -93,6 +93,7 @@ impl<'a> MoreNames<'a> {
     }
 
     /// The place of a text among those that were there.
+    #[inline(never)]
     fn known_id(&self, text: &[u8]) -> Option<NameId>
         ensures { option_map (λ id. id.0) result ≡ place_of text.now self.now.known }
     {
@@ -103,6 +104,7 @@ impl<'a> MoreNames<'a> {
     }
 
     /// Whether a text was added at this place.
+    #[inline(always)]
     fn is_at(&self, index: usize, text: &[u8]) -> bool
         ensures { IsTrue result → slice_get self.now.added index ≡ Some text.now }
     {
@@ -112,24 +114,34 @@ impl<'a> MoreNames<'a> {
         }
     }
 
-    /// The place of a text among those that were added.
-    fn index_of(&mut self, text: &[u8]) -> Option<usize>
+    /// The place of a text among those that were added, by its hash, which is kept from now on.
+    #[inline(never)]
+    fn hashed_index_of(&mut self, text: &[u8]) -> Option<usize>
         ensures place { result ≡ place_of text.now self.old.added }
         ensures same { self.new ≡ self.old }
     {
-        let slot = slot_of(text);
-        let index = self.recent[slot] as usize;
-        if self.is_at(index, text) {
-            return Some(index);
-        }
         let found = self.added.get_index_of(text);
         if let Some(index) = found {
-            self.recent[slot] = short_number(index);
+            self.recent[slot_of(text)] = short_number(index);
         }
         found
     }
 
+    /// The place of a text among those that were added.
+    #[inline(always)]
+    fn index_of(&mut self, text: &[u8]) -> Option<usize>
+        ensures place { result ≡ place_of text.now self.old.added }
+        ensures same { self.new ≡ self.old }
+    {
+        let index = self.recent[slot_of(text)] as usize;
+        if self.is_at(index, text) {
+            return Some(index);
+        }
+        self.hashed_index_of(text)
+    }
+
     /// Puts a new text last.
+    #[inline(never)]
     fn add(&mut self, text: &[u8]) -> Result<NameId, NoMemory>
         requires new { place_of text.now (joined_names self.old) ≡ None }
         ensures place { IfOk result (λ id. id.0 ≡ in_32_bits (length (joined_names self.old))) }
@@ -142,6 +154,7 @@ impl<'a> MoreNames<'a> {
     }
 
     /// The number of a text in 32 bits, `None` exactly where it isn't listed.
+    #[inline(always)]
     fn find(&mut self, text: &[u8]) -> Option<NameId>
         ensures number { option_map (λ id. id.0) result ≡ option_map in_32_bits (place_of text.now (joined_names self.old)) }
         ensures same { self.new ≡ self.old }

@@ -5,10 +5,12 @@ ghost use Rattle.mars_read.specs.Spellings.{spellings_of};
 ghost use Rattle.mars_read.specs.Spelled.{spelled_out};
 
 use crate::TokenMeanings;
+use crate::spellings::valued;
 use mars_base::NoMemory;
 use mars_clauses::Maker;
-use mars_forms::{FormAction, FormSymbol, Forms, Lexeme};
+use mars_forms::{FormAction, FormSymbol, Forms, Lexeme, TokenKind};
 use mars_grammar::Builder;
+use mars_tree::NameId;
 
 /// A text with the numbers of its spellings, and a maker that is told its events.
 #[derive(Drop)]
@@ -29,8 +31,24 @@ impl<'a, const TWO: bool, M: Maker> Builder<Forms<TWO>> for Spelled<'a, M> {
     ghost build = { spelled_out M.build };
 
     fn read(&mut self, symbol: FormSymbol, token: Lexeme) -> Result<(), NoMemory> {
-        let meaning = self.meanings.meaning(symbol, token)?;
-        self.maker.read(symbol, meaning)
+        match token.kind {
+            // signs, which are half of all tokens and mean nothing but their kind
+            TokenKind::Arrow
+            | TokenKind::Open
+            | TokenKind::Close
+            | TokenKind::Less
+            | TokenKind::Greater
+            | TokenKind::Comma
+            | TokenKind::Dot
+            | TokenKind::Semicolon
+            | TokenKind::Slash
+            | TokenKind::Equals
+            | TokenKind::Hash => self.maker.read(symbol, valued(token, NameId(0), 0)),
+            _ => {
+                let meaning = self.meanings.meaning(symbol, token)?;
+                self.maker.read(symbol, meaning)
+            }
+        }
     }
 
     fn say(&mut self, action: FormAction) -> Result<(), NoMemory> {

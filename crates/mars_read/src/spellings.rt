@@ -90,7 +90,7 @@ fn role_of(symbol: FormSymbol, kind: TokenKind) -> TokenRole
 }
 
 /// A token with its meaning.
-fn valued(token: Lexeme, name: NameId, number: i64) -> ValuedToken
+pub(crate) fn valued(token: Lexeme, name: NameId, number: i64) -> ValuedToken
     ensures { result ≡ told.valued token name number }
 {
     ValuedToken {

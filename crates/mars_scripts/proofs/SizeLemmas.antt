@@ -1,5 +1,5 @@
 -- What is told of trees grows by at most a node a token.
-use Rattle.std.proofs.Common.{◌≡◌, ◌≤◌, ◌+◌, ℕ, List, [], ◌∷◌, ◌++◌, length, refl, ap, sym, arith, Option, Some, None}
+use Rattle.std.proofs.Common.{◌≡◌, ◌≤◌, ◌+◌, ℕ, List, [], ◌∷◌, ◌++◌, refl, ap, sym, arith, Option, Some, None}
 use Rattle.std.specs.Prelude.{sum_by, fold}
 use Rattle.mars_grammar.specs.FormTable.{Event, Read, Say}
 use Rattle.mars_grammar.specs.Building.{performs}
@@ -23,7 +23,7 @@ use Rattle.mars_clauses.specs.declared.making.FinishedClause.{FinishedClause}
 use Rattle.mars_clauses.specs.declared.making.FinishedClause.TheVariants as finished_clause
 use Rattle.mars_clauses.specs.Terms.{clause_read, finished}
 use Rattle.mars_scripts.specs.Trees.{token_told, action_told, made_by_step, part_told, tree_event}
-use Rattle.mars_scripts.specs.Scripts.{Scripts, nothing_told, sessions_with, with_session_whole, with_next_name, with_rule, session_with, with_command, command_told, put_told, with_whole, with_ended, script_read, scripts_event, scripts_making}
+use Rattle.mars_scripts.specs.Scripts.{Scripts, nothing_told, sessions_with, with_session_whole, with_next_name, with_rule, session_with, with_command, command_told, with_whole, script_read, scripts_event, scripts_making}
 use Rattle.mars_scripts.specs.Sizes.{tokens_in, nodes_of_command, nodes_of_script, MakesSmallInput}
 
 -- a sum over a list with one more

@@ -2,6 +2,7 @@
 ghost use Rattle.std.specs.Prelude.{◌≡◌, OnOk, IfOk, None};
 ghost use Rattle.mars_clauses.specs.Made.{clause_of};
 ghost use Rattle.mars_forms.specs.declared.symbol.FormSymbol.{FormSymbol};
+ghost use Rattle.mars_grammar.specs.FormTable.{Read};
 ghost use Rattle.mars_scripts.specs.Scripts.{Scripts, scripts_making, nothing_told};
 ghost use Rattle.mars_scripts.specs.Scripts as told;
 ghost use Rattle.mars_scripts.specs.Told.{scripts_of};
@@ -201,6 +202,16 @@ impl ScriptMaker {
         Ok(())
     }
 
+    /// What a token tells, whatever the symbol that takes it.
+    #[inline(never)]
+    fn read_any(&mut self, symbol: FormSymbol, token: ValuedToken) -> Result<(), NoMemory>
+        ensures { OnOk result (scripts_of self.new ≡ told.scripts_event (Read symbol token) (scripts_of self.old)) }
+    {
+        self.clause.read(symbol, token)?;
+        self.tree.read(symbol, token)?;
+        self.script(symbol, token)
+    }
+
     /// The whole of what was told, with the names of the text.
     pub fn finish(self, names: Names) -> Input
         ensures { result ≡ told.input_told names (scripts_of self) }
@@ -224,9 +235,31 @@ impl Maker for ScriptMaker {
     ghost build = { scripts_making };
 
     fn read(&mut self, symbol: FormSymbol, token: ValuedToken) -> Result<(), NoMemory> {
-        self.clause.read(symbol, token)?;
-        self.tree.read(symbol, token)?;
-        self.script(symbol, token)
+        match symbol {
+            FormSymbol::Goals | FormSymbol::AskGoals | FormSymbol::Term | FormSymbol::AskTerm => {
+                self.tree.place = token.start;
+                self.clause.read(symbol, token)
+            }
+            FormSymbol::PutTerm | FormSymbol::PutTail | FormSymbol::DefinedTerm => {
+                self.tree.read(symbol, token)
+            }
+            FormSymbol::HeadArguments
+            | FormSymbol::HeadRow
+            | FormSymbol::Arguments
+            | FormSymbol::Row
+            | FormSymbol::Tail
+            | FormSymbol::AskArguments
+            | FormSymbol::AskRow
+            | FormSymbol::AskTail
+            | FormSymbol::PutArguments
+            | FormSymbol::PutRow
+            | FormSymbol::OneClose
+            | FormSymbol::OneGreater => {
+                self.tree.place = token.start;
+                Ok(())
+            }
+            _ => self.read_any(symbol, token),
+        }
     }
 
     fn say(&mut self, action: FormAction) -> Result<(), NoMemory> {

@@ -33,6 +33,7 @@ impl TreeMaker {
     }
 
     /// A token of a term.
+    #[inline(always)]
     fn part(&mut self, token: ValuedToken) -> Result<(), NoMemory>
         ensures { OnOk result (self.new ≡ told.with_step (told.part_told token.kind token) self.old) }
     {
@@ -56,6 +57,7 @@ impl Maker for TreeMaker {
 
     ghost build = { told.tree_making };
 
+    #[inline(always)]
     fn read(&mut self, symbol: FormSymbol, token: ValuedToken) -> Result<(), NoMemory> {
         self.place = token.start;
         match symbol {

@@ -112,8 +112,9 @@ fn other_class(b: u8) -> ByteClass
     }
 }
 
-/// The class of a byte.
-pub(crate) fn byte_class(b: u8) -> ByteClass
+/// The class of a byte that is no sign.
+#[inline(always)]
+fn spelled_class(b: u8) -> ByteClass
     ensures { result ≡ byte_class b }
 {
     if is_letter(b) {
@@ -124,5 +125,25 @@ pub(crate) fn byte_class(b: u8) -> ByteClass
         ByteClass::Blank
     } else {
         other_class(b)
+    }
+}
+
+/// The class of a byte. Signs are told first, since most tokens are signs.
+#[inline(always)]
+pub(crate) fn byte_class(b: u8) -> ByteClass
+    ensures { result ≡ byte_class b }
+{
+    match b {
+        b'(' => ByteClass::Sign(TokenKind::Open),
+        b')' => ByteClass::Sign(TokenKind::Close),
+        b'<' => ByteClass::Sign(TokenKind::Less),
+        b'>' => ByteClass::Sign(TokenKind::Greater),
+        b',' => ByteClass::Sign(TokenKind::Comma),
+        b'.' => ByteClass::Sign(TokenKind::Dot),
+        b';' => ByteClass::Sign(TokenKind::Semicolon),
+        b'/' => ByteClass::Sign(TokenKind::Slash),
+        b'=' => ByteClass::Sign(TokenKind::Equals),
+        b'#' => ByteClass::Sign(TokenKind::Hash),
+        _ => spelled_class(b),
     }
 }

@@ -78,9 +78,9 @@ fn after_quote(two: bool, rest: &[u8]) -> Option<(Piece, usize)>
     Some((Piece::Token(TokenKind::Text), n + 2))
 }
 
-/// The longest piece that begins the bytes, if one does, and how many bytes it has. Linear in these, but for a quote that
-/// begins no string: then the search for its end takes up to all bytes.
-pub(crate) fn first_piece(bytes: &[u8], two: bool) -> Option<(Piece, usize)>
+/// The longest piece that begins the bytes, whatever their first byte, if one does.
+#[inline(never)]
+fn any_piece(bytes: &[u8], two: bool) -> Option<(Piece, usize)>
     requires { length bytes.now < 2 ^ 63 }
     ensures { result ≡ first_of two bytes.now }
 {
@@ -98,5 +98,23 @@ pub(crate) fn first_piece(bytes: &[u8], two: bool) -> Option<(Piece, usize)>
         ByteClass::Quote => after_quote(two, rest),
         ByteClass::Sign(kind) => Some((Piece::Token(kind), 1)),
         ByteClass::Other => None,
+    }
+}
+
+/// The longest piece that begins the bytes, if one does, and how many bytes it has. Linear in these, but for a quote that
+/// begins no string: then the search for its end takes up to all bytes. Signs and words are most pieces.
+#[inline(always)]
+pub(crate) fn first_piece(bytes: &[u8], two: bool) -> Option<(Piece, usize)>
+    requires { length bytes.now < 2 ^ 63 }
+    ensures { result ≡ first_of two bytes.now }
+{
+    let (first, rest) = bytes.split_first()?;
+    match byte_class(*first) {
+        ByteClass::Sign(kind) => Some((Piece::Token(kind), 1)),
+        ByteClass::Letter => {
+            let n = tail(rest) + 1;
+            Some((Piece::Token(word_kind(&bytes[..n])), n))
+        }
+        _ => any_piece(bytes, two),
     }
 }
