@@ -3,7 +3,7 @@
 //! Without words it runs each program once, small, and writes how many steps and answers came. With the words `KIND SIZE`,
 //! where KIND is `reverse`, `count`, `build`, `permutations`, `queens`, `zebra` or `cyclic`, it runs that program and writes
 //! the nanoseconds of a step, too.
-ghost use Rattle.mars_scripts.specs.WellFormed.{IsWellFormedInput};
+ghost use Rattle.mars_scripts.specs.WellFormed.{IsWellFormedInput, IsWellFormedScript};
 ghost use Rattle.mars_term.specs.Clauses.{IsAsk};
 
 mod programs;
@@ -16,7 +16,7 @@ use mars_machine::{Asked, Stepped};
 use mars_read::{ReadError, read_input};
 use mars_rules::RuleBase;
 use mars_run::Machine;
-use mars_script::{Command, Input};
+use mars_script::{Command, Input, Script};
 use mars_term::Ask;
 use std::alloc::Global;
 use std::io;
@@ -79,30 +79,37 @@ fn counts_of(alloc: Global, kind: Kind, size: u64) -> Result<Counts, NoMemory> {
     match read_input(alloc, &text) {
         Ok(input) => counts_of_input(alloc, &input),
         Err(ReadError::NoMemory) => Err(NoMemory),
-        Err(_) => Ok(Counts {
-            steps: 0,
-            answers: 0,
-        }),
+        Err(_) => Ok(no_counts()),
     }
 }
 
-/// The counts of an input's last ask.
+/// The counts of the first ask of an input's first session.
 fn counts_of_input(alloc: Global, input: &Input) -> Result<Counts, NoMemory>
     requires { IsWellFormedInput input.now }
 {
     let base = RuleBase::new(alloc, input.rules.as_slice())?;
-    let mut counts = Counts {
+    match input.sessions.as_slice().get(0) {
+        Some(script) => counts_of_script(alloc, &base, script),
+        None => Ok(no_counts()),
+    }
+}
+
+/// Nothing was counted.
+fn no_counts() -> Counts {
+    Counts {
         steps: 0,
         answers: 0,
-    };
-    for script in input.sessions.as_slice() {
-        for command in script.commands.as_slice() {
-            if let Command::Ask { ask } = command {
-                counts = counts_of_ask(alloc, &base, ask)?;
-            }
-        }
     }
-    Ok(counts)
+}
+
+/// The counts of a session's first command, where it is an ask.
+fn counts_of_script(alloc: Global, base: &RuleBase, script: &Script) -> Result<Counts, NoMemory>
+    requires { IsWellFormedScript script.now }
+{
+    match script.commands.as_slice().get(0) {
+        Some(Command::Ask { ask }) => counts_of_ask(alloc, base, ask),
+        _ => Ok(no_counts()),
+    }
 }
 
 /// The counts of an ask without kept names.

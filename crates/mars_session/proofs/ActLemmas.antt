@@ -21,10 +21,10 @@ tree_graph_one g n t u a b =
     let c : Rooted = record { nodes = t; roots = 0 ∷ [] } in
     let d : Rooted = record { nodes = u; roots = 0 ∷ [] } in
     let same : Same t 0 u 0 = λ path. a.same path ∙ sym (b.same path) in
-    ap (λ (c : Rooted). c.nodes) ((one_form_of_trees c d (canon_of t a.is_tree) (canon_of u b.is_tree)).1 (same, tt))
+    ap (λ (c : Rooted). c.nodes) ((one_form_of_trees c d (answer_canon t a.is_tree) (answer_canon u b.is_tree)).1 (same, tt))
   where
-    canon_of : (t : List Node) → IsTreeGraph t → IsCanon (record { nodes = t; roots = 0 ∷ [] })
-    canon_of t is = record { graph = is.graph; canonical = is.canonical; roots_in = roots_in t (0 ∷ []) is.canonical }
+    answer_canon : (t : List Node) → IsTreeGraph t → IsCanon (record { nodes = t; roots = 0 ∷ [] })
+    answer_canon t is = record { graph = is.graph; canonical = is.canonical; roots_in = roots_in t (0 ∷ []) is.canonical }
 
 form_one : (g : List Node) (n : ℕ) (a b : TreeForm) → IsTreeForm g n a → IsTreeForm g n b → a ≡ b
 form_one g n Free Free h k = refl

@@ -13,5 +13,11 @@ pub mod Replaying
 pub mod TogetherLemmas
 pub mod Numbering
 pub mod AskTexts
+pub mod OneForm
+pub mod Trees
+pub mod Results
+pub mod AskSteps
+pub mod Turning
+pub mod DoorLemmas
 pub mod RowLemmas
 pub mod Happenings

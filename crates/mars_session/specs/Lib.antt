@@ -17,3 +17,12 @@ pub mod SessionLaws
 pub mod WorldLaws
 pub mod DoorLaws
 pub mod SessionRows
+-- Inside: the code's own steps, promised to nobody.
+pub mod LinesInside
+pub mod WishesInside
+pub mod ActsInside
+pub mod AskingInside
+pub mod NextInside
+pub mod SessionInside
+pub mod TextSeen
+pub mod TextInside

@@ -1,5 +1,5 @@
 //! What the asks of an input say.
-ghost use Rattle.mars_scripts.specs.WellFormed.{IsWellFormedInput};
+ghost use Rattle.mars_scripts.specs.WellFormed.{IsWellFormedInput, IsWellFormedScript, IsWellFormedCommand};
 ghost use Rattle.mars_term.specs.Clauses.{IsAsk};
 
 use mars_machine::{Asked, Ending, Stepped};
@@ -49,7 +49,10 @@ fn push_script(
     script: &Script,
     budget: u64,
     into: &mut Vec<u8>,
-) -> Result<(), Stop> {
+) -> Result<(), Stop>
+    requires input { IsWellFormedInput input.now }
+    requires script { IsWellFormedScript script.now }
+{
     let base = RuleBase::join(
         alloc,
         input.rules.as_slice(),
@@ -57,12 +60,29 @@ fn push_script(
         input.version,
     )?;
     for command in script.commands.as_slice() {
-        if let Command::Ask { ask } = command {
-            let asked = asked_of(alloc, &base, ask, budget)?;
-            push_asked(&input.names, ask, &asked, into)?;
-        }
+        push_command(alloc, &base, &input.names, command, budget, into)?;
     }
     Ok(())
+}
+
+/// Writes what a command says, where it is an ask.
+fn push_command(
+    alloc: Global,
+    base: &RuleBase,
+    names: &Names,
+    command: &Command,
+    budget: u64,
+    into: &mut Vec<u8>,
+) -> Result<(), Stop>
+    requires { IsWellFormedCommand command.now }
+{
+    match command {
+        Command::Ask { ask } => {
+            let asked = asked_of(alloc, base, ask, budget)?;
+            push_asked(names, ask, &asked, into)
+        }
+        _ => Ok(()),
+    }
 }
 
 /// The run of an ask that has no kept name.

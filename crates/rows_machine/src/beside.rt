@@ -1,5 +1,6 @@
 //! Random programs on both machines.
-ghost use Rattle.mars_scripts.specs.WellFormed.{IsWellFormedInput};
+ghost use Rattle.mars_scripts.specs.WellFormed.{IsWellFormedInput, IsWellFormedScript};
+ghost use Rattle.mars_term.specs.Clauses.{IsAsk};
 
 use crate::asked::asked_of;
 use crate::drawn::drawn_text;
@@ -8,7 +9,7 @@ use crate::tally::Tally;
 use mars_machine::{Asked, Ending, Stepped};
 use mars_read::read_input;
 use mars_rules::RuleBase;
-use mars_script::{Command, Input};
+use mars_script::{Command, Input, Script};
 use mars_term::Ask;
 use rows::{Draw, Stop, push_number, read_numbers};
 use std::alloc::Global;
@@ -50,22 +51,32 @@ fn run_one(alloc: Global, text: &[u8], tally: &mut Tally) -> Result<bool, Stop> 
     }
 }
 
-/// Runs the asks of an input.
+/// Runs the first ask of an input's first session.
 fn run_input(alloc: Global, input: &Input, tally: &mut Tally) -> Result<bool, Stop>
     requires { IsWellFormedInput input.now }
 {
     let base = RuleBase::new(alloc, input.rules.as_slice())?;
     let plain = plain_rules(alloc, input.rules.as_slice())?;
-    for script in input.sessions.as_slice() {
-        for command in script.commands.as_slice() {
-            if let Command::Ask { ask } = command {
-                if !run_ask(alloc, &base, &plain, ask, tally)? {
-                    return Ok(false);
-                }
-            }
-        }
+    match input.sessions.as_slice().get(0) {
+        Some(script) => run_script(alloc, &base, &plain, script, tally),
+        None => Err(Stop::OtherParts),
     }
-    Ok(true)
+}
+
+/// Runs a session's first command, which is an ask.
+fn run_script(
+    alloc: Global,
+    base: &RuleBase,
+    plain: &[PlainRule],
+    script: &Script,
+    tally: &mut Tally,
+) -> Result<bool, Stop>
+    requires { IsWellFormedScript script.now }
+{
+    match script.commands.as_slice().get(0) {
+        Some(Command::Ask { ask }) => run_ask(alloc, base, plain, ask, tally),
+        _ => Err(Stop::OtherParts),
+    }
 }
 
 /// Runs an ask without kept names.
@@ -75,9 +86,11 @@ fn run_ask(
     plain: &[PlainRule],
     ask: &Ask,
     tally: &mut Tally,
-) -> Result<bool, Stop> {
+) -> Result<bool, Stop>
+    requires { IsAsk ask.now }
+{
     let goals = plain_ask(alloc, ask)?;
-    let mut other = PlainMachine::start(alloc, &goals, ask.vars.as_slice().len() as u32)?;
+    let mut other = PlainMachine::start(alloc, &goals, count_of(ask)?)?;
     let end = other.run(alloc, plain, BUDGET, ask.most)?;
     let asked = asked_of(alloc, base, ask, BUDGET)?;
     count(&asked, tally);
@@ -86,6 +99,14 @@ fn run_ask(
             && is_end(asked.ending, end)
             && are_alike(asked.said.as_slice(), &other.said),
     )
+}
+
+/// How many variables an ask has.
+fn count_of(ask: &Ask) -> Result<u32, Stop> {
+    match u32::try_from(ask.vars.as_slice().len()) {
+        Ok(count) => Ok(count),
+        Err(_) => Err(Stop::TooMany),
+    }
 }
 
 /// Whether both runs ended in the same way.

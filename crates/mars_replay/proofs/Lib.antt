@@ -1,0 +1,11 @@
+pub mod Mapped
+pub mod Followed
+pub mod Reached
+pub mod SoundWorlds
+pub mod Happenings
+pub mod Growing
+pub mod Through
+pub mod RunsWhole
+pub mod Left
+pub mod Starting
+pub mod Kept
