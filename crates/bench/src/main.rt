@@ -6,7 +6,6 @@
 #![tactic(auto)]
 
 mod book;
-mod derivations;
 mod difs;
 mod equations;
 mod failing;
@@ -26,11 +25,10 @@ use std::time::Clock;
 use std::{env, io};
 
 /// All that is measured.
-const NAMES: [&str; 10] = [
+const NAMES: [&str; 9] = [
     "equations",
     "difs",
     "rules",
-    "derivations",
     "forms",
     "texts",
     "rows",
@@ -87,7 +85,6 @@ fn measure_alone<R: Clock + Print + AllocGlobal>(
         "equations" => equations::measure(rt, words),
         "difs" => difs::measure(rt, words),
         "rules" => rules::measure(rt, words),
-        "derivations" => derivations::measure(rt, words),
         "forms" => forms::measure(rt, words),
         "texts" => texts::measure(rt, words),
         "rows" => rows::measure(rt, words),

@@ -1,5 +1,5 @@
 //! Random programs on both machines.
-ghost use Rattle.mars_scripts.specs.WellFormed.{IsWellFormedInput, IsWellFormedScript};
+ghost use Rattle.mars_scripts.specs.WellFormed.{IsWellFormedInput, IsWellFormedScript, IsWellFormedCommand};
 ghost use Rattle.mars_term.specs.Clauses.{IsAsk};
 
 use crate::asked::asked_of;
@@ -51,19 +51,21 @@ fn run_one(alloc: Global, text: &[u8], tally: &mut Tally) -> Result<bool, Stop> 
     }
 }
 
-/// Runs the first ask of an input's first session.
+/// Runs the asks of an input.
 fn run_input(alloc: Global, input: &Input, tally: &mut Tally) -> Result<bool, Stop>
     requires { IsWellFormedInput input.now }
 {
     let base = RuleBase::new(alloc, input.rules.as_slice())?;
     let plain = plain_rules(alloc, input.rules.as_slice())?;
-    match input.sessions.as_slice().get(0) {
-        Some(script) => run_script(alloc, &base, &plain, script, tally),
-        None => Err(Stop::OtherParts),
+    for script in input.sessions.as_slice() {
+        if !run_script(alloc, &base, &plain, script, tally)? {
+            return Ok(false);
+        }
     }
+    Ok(true)
 }
 
-/// Runs a session's first command, which is an ask.
+/// Runs the asks of a session.
 fn run_script(
     alloc: Global,
     base: &RuleBase,
@@ -73,9 +75,27 @@ fn run_script(
 ) -> Result<bool, Stop>
     requires { IsWellFormedScript script.now }
 {
-    match script.commands.as_slice().get(0) {
-        Some(Command::Ask { ask }) => run_ask(alloc, base, plain, ask, tally),
-        _ => Err(Stop::OtherParts),
+    for command in script.commands.as_slice() {
+        if !run_command(alloc, base, plain, command, tally)? {
+            return Ok(false);
+        }
+    }
+    Ok(true)
+}
+
+/// Runs a command, where it is an ask.
+fn run_command(
+    alloc: Global,
+    base: &RuleBase,
+    plain: &[PlainRule],
+    command: &Command,
+    tally: &mut Tally,
+) -> Result<bool, Stop>
+    requires { IsWellFormedCommand command.now }
+{
+    match command {
+        Command::Ask { ask } => run_ask(alloc, base, plain, ask, tally),
+        _ => Ok(true),
     }
 }
 
