@@ -20,8 +20,8 @@ IsReadOrRefused two =
 
 -- what holds of both versions holds of each
 pub of-each : (P : Bool → Type 0) → P true → P false → (two : Bool) → P two
-of-each P yes no true = yes
-of-each P yes no false = no
+of-each P second first true = second
+of-each P second first false = first
 
 -- a text that is read is of one version
 same-version : (bytes : List ℕ) (w : InputValue) (two other : Bool) → IsInputText two bytes w → IsOfVersion two bytes → IsOfVersion other bytes → other ≡ two
