@@ -15,7 +15,8 @@ ghost use Rattle.marseille.specs.Words.{AreRunAs, AreRun};
 ghost use Rattle.marseille.specs.Top.{IsDueFor, IsDueAfter, IsDueAs, IsDue, GetsAll, GetsPart};
 
 use crate::refusal::refusal_line;
-use crate::running::{names_sessions, run_in_order};
+use crate::runner::Runner;
+use crate::running::{InThreads, OneThread, names_sessions, rules_of_sessions};
 use crate::status::{Outcome, Status};
 use crate::words::{Taken, take_words};
 use mars_base::NoMemory;
@@ -35,15 +36,16 @@ struct DueOutput {
 }
 
 /// The output of an input that is read: its run, with events in this order first.
-fn run_read(
+fn run_read<H: Runner>(
     alloc: Global,
+    how: &H,
     options: Options,
-    order: &[u32],
+    order: &Option<SessionNumbers>,
     input: &Input,
 ) -> Result<DueOutput, NoMemory>
     requires few { length input.now.sessions < 2 ^ 32 - 2 }
     requires formed { IsWellFormedInput input.now }
-    ensures due { (bytes : List ℕ) → IsReadInput bytes input.now → IfOk result (IsDueFor options order.now bytes) }
+    ensures due { (bytes : List ℕ) → IsReadInput bytes input.now → IfOk result (IsDueFor H.IsRun options order.now bytes) }
     ensures some { IfOk result (λ due. 0 < length due.output.items) }
 {
     if !names_sessions(order, input) {
@@ -53,7 +55,8 @@ fn run_read(
             history: Vec::new(alloc),
         });
     }
-    let Ran { text, history, cut } = run_in_order(alloc, input, options, order)?;
+    let rules = rules_of_sessions(alloc, input)?;
+    let Ran { text, history, cut } = how.run(alloc, input, &rules, options, order)?;
     Ok(DueOutput {
         status: if cut { Status::Memory } else { Status::Done },
         output: text,
@@ -63,7 +66,7 @@ fn run_read(
 
 /// The output of an input that is refused.
 fn refuse(alloc: Global, error: ReadError) -> Result<DueOutput, NoMemory>
-    ensures due { (options : TheOptions) (order bytes : List ℕ) → IsNoInput bytes error → IfOk result (IsDueFor options order bytes) }
+    ensures due { (options : TheOptions) (order bytes : List ℕ) → IsNoInput bytes error → IfOk result (IsDueFor H.IsRun options order bytes) }
     ensures some { IfOk result (λ due. 0 < length due.output.items) }
 {
     Ok(DueOutput {
@@ -74,35 +77,37 @@ fn refuse(alloc: Global, error: ReadError) -> Result<DueOutput, NoMemory>
 }
 
 /// The output that the bytes of an input give.
-fn run_input(
+fn run_input<H: Runner>(
     alloc: Global,
+    how: &H,
     options: Options,
-    order: &[u32],
+    order: &Option<SessionNumbers>,
     bytes: &[u8],
 ) -> Result<DueOutput, NoMemory>
-    ensures due { IfOk result (IsDueFor options order.now bytes.now) }
+    ensures due { IfOk result (IsDueFor H.IsRun options order.now bytes.now) }
     ensures some { IfOk result (λ due. 0 < length due.output.items) }
 {
     match read_input(alloc, bytes) {
-        Ok(input) => run_read(alloc, options, order, &input),
+        Ok(input) => run_read(alloc, how, options, order, &input),
         Err(error) => refuse(alloc, error),
     }
 }
 
 /// Reads the source to its end, and gives the output of what it says.
-fn run_source<S: Source>(
+fn run_source<S: Source, H: Runner>(
     alloc: Global,
+    how: &H,
     options: Options,
-    order: &[u32],
+    order: &Option<SessionNumbers>,
     source: &mut S,
 ) -> Result<DueOutput, SourceError>
-    ensures due { IfOk result (IsDueAfter options order.now (S.left source.old) (S.left source.new)) }
+    ensures due { IfOk result (IsDueAfter H.IsRun options order.now (S.left source.old) (S.left source.new)) }
     ensures some { IfOk result (λ due. 0 < length due.output.items) }
     ensures taken { TakesAtMost (TEXT_LIMIT + 1) (S.left source.old) (S.left source.new) }
     ensures failed { result ≡ Err SourceError.Failed → Rose (S.faults source.old) (S.faults source.new) }
 {
     let bytes = read_whole(alloc, source, TEXT_LIMIT)?;
-    Ok(run_input(alloc, options, order, &bytes)?)
+    Ok(run_input(alloc, how, options, order, &bytes)?)
 }
 
 /// Writes an output. The status is the one that is due, or that of a fault.
@@ -140,32 +145,33 @@ fn nothing(alloc: Global, status: Status) -> Outcome
 
 /// Does all that the program does with words that it runs: reads the source to its end, runs the input's sessions with
 /// events in this order first, and writes their text to the sink.
-fn run_words<S: Source, K: Sink>(
+fn run_words<S: Source, K: Sink, H: Runner>(
     alloc: Global,
+    how: &H,
     options: Options,
-    order: &[u32],
+    order: &Option<SessionNumbers>,
     source: &mut S,
     sink: &mut K,
 ) -> Outcome
     ensures done { result.status ≡ Status.Done →
-        GetsAll (λ output. IsDueAs options order.now (S.left source.old) (S.left source.new) result.history.items output Status.Done) (K.got sink.old) (K.got sink.new) }
+        GetsAll (λ output. IsDueAs H.IsRun options order.now (S.left source.old) (S.left source.new) result.history.items output Status.Done) (K.got sink.old) (K.got sink.new) }
     ensures refused { result.status ≡ Status.Refused →
-        GetsAll (λ output. IsDueAs options order.now (S.left source.old) (S.left source.new) result.history.items output Status.Refused) (K.got sink.old) (K.got sink.new) }
+        GetsAll (λ output. IsDueAs H.IsRun options order.now (S.left source.old) (S.left source.new) result.history.items output Status.Refused) (K.got sink.old) (K.got sink.new) }
     ensures words { result.status ≡ Status.Words →
-        GetsAll (λ output. IsDueAs options order.now (S.left source.old) (S.left source.new) result.history.items output Status.Words) (K.got sink.old) (K.got sink.new) }
+        GetsAll (λ output. IsDueAs H.IsRun options order.now (S.left source.old) (S.left source.new) result.history.items output Status.Words) (K.got sink.old) (K.got sink.new) }
     ensures memory { result.status ≡ Status.Memory → ((K.got sink.new ≡ K.got sink.old) × (result.history.items ≡ []))
-        ⊎ GetsAll (λ output. IsDueAs options order.now (S.left source.old) (S.left source.new) result.history.items output Status.Memory) (K.got sink.old) (K.got sink.new) }
+        ⊎ GetsAll (λ output. IsDueAs H.IsRun options order.now (S.left source.old) (S.left source.new) result.history.items output Status.Memory) (K.got sink.old) (K.got sink.new) }
     ensures read { result.status ≡ Status.Read → Rose (S.faults source.old) (S.faults source.new)
         × (K.got sink.new ≡ K.got sink.old) × (result.history.items ≡ []) }
     ensures write { result.status ≡ Status.Write → Rose (K.faults sink.old) (K.faults sink.new)
-        × GetsPart (λ output. (due : TheStatus) × IsDueAs options order.now (S.left source.old) (S.left source.new) result.history.items output due) (K.got sink.old) (K.got sink.new) }
+        × GetsPart (λ output. (due : TheStatus) × IsDueAs H.IsRun options order.now (S.left source.old) (S.left source.new) result.history.items output due) (K.got sink.old) (K.got sink.new) }
     ensures taken { TakesAtMost (TEXT_LIMIT + 1) (S.left source.old) (S.left source.new) }
     ensures complete { (bytes : List ℕ) (input : TheInput) → S.left source.old ≡ Some bytes → IsReadInput bytes input → NamesSessions order.now input →
         (Rose (S.faults source.old) (S.faults source.new) → ⊥) → (Rose (K.faults sink.old) (K.faults sink.new) → ⊥) →
         (result.status ≡ Status.Done) ⊎ (result.status ≡ Status.Memory) }
 {
     one_input();
-    match run_source(alloc, options, order, source) {
+    match run_source(alloc, how, options, order, source) {
         Ok(due) => say(sink, &due.output, due.status, due.history),
         Err(SourceError::NoMemory) => nothing(alloc, Status::Memory),
         Err(SourceError::Failed) => nothing(alloc, Status::Read),
