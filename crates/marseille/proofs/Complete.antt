@@ -52,3 +52,9 @@ module _ (one : (bytes : List ℕ) (input other : Input) → IsReadInput bytes i
   complete options order old new history output status.Refused holds named is =
       absurd (not_refused new history output (subst (λ (o : Option (List ℕ)). Refuses o new history output) holds is))
   complete options order old new history output _ holds named is = absurd is
+
+-- the status is the one that was due, or that of a fault, and there was none
+pub without_fault : (s due : Status) → (due ≡ status.Done) ⊎ (due ≡ status.Memory) → (s ≡ due) ⊎ (s ≡ status.Write) → (s ≡ status.Write → ⊥) → (s ≡ status.Done) ⊎ (s ≡ status.Memory)
+without_fault s due (inl done) (inl same) none = inl (same ∙ done)
+without_fault s due (inr memory) (inl same) none = inr (same ∙ memory)
+without_fault s due is (inr fault) none = absurd (none fault)

@@ -166,7 +166,13 @@ fn run_words<S: Source, K: Sink>(
 {
     one_input();
     match run_source(alloc, options, order, source) {
-        Ok(due) => say(sink, &due.output, due.status, due.history),
+        Ok(
+            DueOutput {
+                status,
+                output,
+                history,
+            },
+        ) => say(sink, &output, status, history),
         Err(SourceError::NoMemory) => nothing(alloc, Status::Memory),
         Err(SourceError::Failed) => nothing(alloc, Status::Read),
     }
