@@ -8,7 +8,8 @@ ghost use Rattle.mars_clauses.specs.declared.limits.OverLimit.{OverLimit};
 ghost use Rattle.mars_read.specs.declared.error.ReadError.{ReadError as TheError};
 ghost use Rattle.mars_read.specs.declared.error.ReadError.TheVariants as read_error;
 ghost use Rattle.mars_read.specs.Refused.{IsReadAs, IsRefusedAs};
-ghost use Rattle.mars_read.specs.ReadInput.{PutsAreSmall};
+ghost use Rattle.mars_read.specs.ReadInput.{PutsAreSmall, IsReadInput, IsNoInput};
+ghost use Rattle.mars_script.specs.declared.script.Input.{Input};
 
 use mars_forms::Forms;
 use mars_grammar::{Builder, one_refusal, one_value};
@@ -31,4 +32,10 @@ pub fn one_reading<const TWO: bool, B: Builder<Forms<TWO>>>()
 /// The graph of a tree that an input puts has at most a node for each token of the tree, whatever comes before it.
 pub fn puts_are_small()
     ensures { PutsAreSmall }
+{}
+
+/// A text says one input, and is then not refused; out of memory aside.
+pub fn one_input()
+    ensures input { (bytes : List ℕ) (input other : Input) → IsReadInput bytes input → IsReadInput bytes other → input ≡ other }
+    ensures either { (bytes : List ℕ) (input : Input) (e : TheError) → IsReadInput bytes input → IsNoInput bytes e → e ≡ read_error.NoMemory }
 {}

@@ -13,7 +13,7 @@ mod spellings;
 pub use error::{ReadError, TEXT_LIMIT, What};
 pub use goals::{goals_are_asks, read_goals};
 pub use inputs::read_input;
-pub use laws::{one_reading, puts_are_small};
+pub use laws::{one_input, one_reading, puts_are_small};
 pub use more_names::MoreNames;
 pub use reading::read_tree;
 pub use spelled::Spelled;

@@ -1,4 +1,4 @@
 pub mod Due
-pub mod Numbers
-pub mod OneForm
-pub mod Running
+pub mod Complete
+pub mod Texts
+pub mod Runs

@@ -1,6 +1,8 @@
--- Which words the program runs.
-use Rattle.std.specs.Prelude.{◌≡◌, ⊤, ℕ, nat_eq, false, List, [], ◌∷◌, All, codes}
-use Rattle.std.specs.List.{starts_with}
+-- Which words the program runs, and how.
+use Rattle.std.specs.Prelude.{◌≡◌, ℕ, List, [], false, Option, Some, None}
+use Rattle.mars_script.specs.declared.words.Options.{Options}
+use Rattle.mars_script.specs.declared.words.Mode.{Mode}
+use Rattle.mars_script.specs.declared.words.Mode.TheVariants as mode
 use Rattle.mars_script.specs.declared.words.Words.{Words}
 use Rattle.mars_script.specs.Words.{IsWords}
 use Rattle.marseille.specs.declared.words.Taken.{Taken}
@@ -10,28 +12,25 @@ use Rattle.marseille.specs.declared.words.Taken.TheVariants.{Run, Unbuilt, Refus
 abbrev pub AreWords : List (List ℕ) → Type 0
 AreWords texts = (said : Words) × IsWords texts said
 
--- the word begins neither the option `--steps` nor the option `--log`
-abbrev pub IsPlainWord : List ℕ → Type 0
-IsPlainWord word = (starts_with nat_eq word (codes "--steps") ≡ false) × (starts_with nat_eq word (codes "--log") ≡ false)
+-- the order in which a mode's events come first; a mode that isn't built yet has none
+abbrev pub order_of_mode : Mode → Option (List ℕ)
+order_of_mode mode.Run = Some []
+order_of_mode (mode.Order numbers) = Some numbers
+order_of_mode _ = None
 
--- the words name no mode other than `run`, and no option other than `--rows`
-abbrev pub ArePlain : List (List ℕ) → Type 0
-ArePlain [] = ⊤
-ArePlain (first ∷ rest) = (first ≡ codes "run") × All IsPlainWord rest
-
--- the words are run, over a table of at most so many rows: that of `--rows`, or the usual one
-pub record AreRunWith (texts : List (List ℕ)) (rows : ℕ) : Type 0 where
+-- the words are run: with these options, of which the log isn't built yet, and with events in this order first
+pub record AreRunAs (texts : List (List ℕ)) (options : Options) (order : List ℕ) : Type 0 where
   pub said : Words
   pub words : IsWords texts said
-  pub plain : ArePlain texts
-  pub limit : rows ≡ said.options.rows
+  pub order_is : order_of_mode said.mode ≡ Some order
+  pub options_are : said.options ≡ options
+  pub no_log : options.log ≡ false
 
--- the words are run
 abbrev pub AreRun : List (List ℕ) → Type 0
-AreRun texts = AreWords texts × ArePlain texts
+AreRun texts = (options : Options) × (order : List ℕ) × AreRunAs texts options order
 
--- what the program does with words: those that are accepted are run where they are plain, since nothing else is built
+-- what the program does with words: those that are accepted are run where their mode and options are built
 abbrev pub AreTakenAs : List (List ℕ) → Taken → Type 0
-AreTakenAs texts (Run rows) = AreRunWith texts rows
-AreTakenAs texts Unbuilt = AreWords texts × (ArePlain texts → ⊥)
+AreTakenAs texts (Run options order) = AreRunAs texts options order
+AreTakenAs texts Unbuilt = AreWords texts × (AreRun texts → ⊥)
 AreTakenAs texts Refused = AreWords texts → ⊥

@@ -1,11 +1,9 @@
-//! `marseille` reads an input from standard input, runs it, and writes what it answers to standard output.
+//! `marseille` reads an input from standard input, runs its sessions, and writes what they answer to standard output.
 #![tactic(auto)]
 
-mod built;
 mod refusal;
-mod run;
+mod running;
 mod status;
-mod text;
 mod top;
 mod words;
 
@@ -39,6 +37,6 @@ fn main(rt: HostRuntime) -> ExitCode {
     };
     let mut source = FromReader::new(rt.reader());
     let mut sink = ToWriter::new(io::writer(&rt));
-    let Outcome { status } = marseille_alone(rt.alloc(), &words, &mut source, &mut sink);
+    let Outcome { status, .. } = marseille_alone(rt.alloc(), &words, &mut source, &mut sink);
     ExitCode::from(status.number())
 }

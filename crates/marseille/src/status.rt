@@ -2,16 +2,18 @@
 ghost use Rattle.std.specs.Prelude.{◌≡◌};
 ghost use Rattle.marseille.specs.Status.{number_of_status};
 
+use mars_table::Entry;
+
 /// How a call of the program ended.
 #[derive(Clone, Copy, Debug, PartialEq, Eq)]
 pub enum Status {
-    /// The whole output of the run was written.
+    /// The whole text of the run was written.
     Done,
     /// The input isn't of the form; a line says so.
     Refused,
-    /// The words aren't accepted; a line says so.
+    /// The words aren't accepted, or their order names a session that the input lacks; a line says so.
     Words,
-    /// Out of memory; nothing was written.
+    /// Out of memory: nothing was written, or the text of a run with a session that was cut.
     Memory,
     /// The source failed; nothing was written.
     Read,
@@ -28,8 +30,10 @@ impl Status {
     }
 }
 
-/// What a call of the program gives back.
-#[derive(Clone, Copy, Debug)]
+/// What a call of the program gives back: how it ended, and the history of its table. Where no text of a run was due, the
+/// history is empty.
+#[derive(Drop)]
 pub struct Outcome {
     pub status: Status,
+    pub history: Vec<Entry>,
 }
