@@ -9,7 +9,7 @@ use Rattle.mars_clauses.specs.declared.counts.InputCounts.{InputCounts}
 use Rattle.mars_clauses.specs.Limits.{counting, nothing_counted}
 use Rattle.mars_scripts.specs.Scripts.{Scripts, scripts_making, nothing_told, input_told}
 use Rattle.mars_scripts.specs.WellFormed.{IsWellFormedInput, MakesWellFormedInput}
-use Rattle.mars_scripts.specs.Sizes.{nodes_put, MakesSmallInput}
+use Rattle.mars_scripts.specs.Sizes.{nodes_put, MakesSmallInput, MakesFewSessions}
 use Rattle.mars_read.specs.Spellings.{Spellings, spellings_from}
 use Rattle.mars_read.specs.Spelled.{events_told}
 use Rattle.mars_read.specs.ReadInput.{InputValue, IsInputText}
@@ -40,6 +40,15 @@ module _ (two : Bool) (bytes : List ℕ) (w : InputValue) (r : IsInputText two b
       omega (
         arith,
         ap (λ (s : Scripts). nodes_put (input_told names s)) scripts-read,
+        law names (events_told (spellings_from bytes built_in_names) r.events),
+        few-told two INPUT.now (both counting scripts_making) bytes built_in_names (nothing_counted false, nothing_told) w r,
+      )
+
+  pub input-few_sessions : MakesFewSessions → (names : List (List ℕ)) → length (input_told names w.1.1).sessions ≤ length bytes
+  input-few_sessions law names =
+      omega (
+        arith,
+        ap (λ (s : Scripts). length (input_told names s).sessions) scripts-read,
         law names (events_told (spellings_from bytes built_in_names) r.events),
         few-told two INPUT.now (both counting scripts_making) bytes built_in_names (nothing_counted false, nothing_told) w r,
       )

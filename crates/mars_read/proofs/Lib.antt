@@ -8,6 +8,7 @@ mod TreesMade
 mod InputsMade
 mod GoalsClosed
 mod OneReading
+mod OneInput
 mod GoalsMade
 pub mod MoreNameFacts
 pub mod PutTrees

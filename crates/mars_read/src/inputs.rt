@@ -21,7 +21,9 @@ use mars_clauses::{InputCounts, OverLimit};
 use mars_forms::{Lexeme, parse_input_one, parse_input_two};
 use mars_grammar::{Both, Refusal, Which};
 use mars_script::Input;
-use mars_scripts::{ScriptMaker, inputs_are_small, inputs_are_well_formed};
+use mars_scripts::{
+    ScriptMaker, inputs_are_small, inputs_are_well_formed, inputs_have_few_sessions,
+};
 use mars_tokens::{Tokens, has_version_two};
 use mars_tree::Names;
 use std::alloc::Global;
@@ -34,7 +36,7 @@ struct InputParts {
 }
 
 /// What is told of an input, with the numbers of its spellings.
-type InputTold<'a> = Spelled<'a, Both<InputCounts, ScriptMaker>>;
+pub(crate) type InputTold<'a> = Spelled<'a, Both<InputCounts, ScriptMaker>>;
 
 /// Tells what the tokens of an input say, by the grammar of a version.
 fn tell_input(
@@ -107,11 +109,13 @@ pub fn read_input(alloc: Global, bytes: &[u8]) -> Result<Input, ReadError>
     ensures read { IfOk result (IsReadInput bytes.now) }
     ensures well_formed { IfOk result IsWellFormedInput }
     ensures small { IfOk result (λ input. nodes_put input ≤ length bytes.now) }
+    ensures few { IfOk result (λ input. length input.sessions ≤ length bytes.now) }
     ensures names { IfOk result (λ input. KeepsNames built_in_names input.names) }
     ensures refused { IfErr result (IsNoInput bytes.now) }
 {
     inputs_are_well_formed();
     inputs_are_small();
+    inputs_have_few_sessions();
     let two = has_version_two(bytes);
     input_of_version(alloc, bytes, two)
 }

@@ -1,2 +1,3 @@
 pub mod WellFormedLemmas
 mod SizeLemmas
+mod SessionLemmas

@@ -1,4 +1,4 @@
--- How many nodes the trees have that an input puts.
+-- How many nodes the trees have that an input puts, and how many sessions it has.
 use Rattle.std.specs.Prelude.{ℕ, ◌≤◌, ◌+◌, List, [], ◌∷◌, length, sum_by}
 use Rattle.mars_grammar.specs.FormTable.{Event, Read, Say}
 use Rattle.mars_grammar.specs.Building.{performs}
@@ -32,3 +32,7 @@ nodes_put input = sum_by nodes_of_script input.sessions
 -- whatever the events are, the trees that they put have together at most a node a token
 abbrev pub MakesSmallInput : Type 0
 MakesSmallInput = (names : List (List ℕ)) (events : List (Event FormSymbol ValuedToken FormAction)) → nodes_put (input_told names (performs scripts_making events nothing_told)) ≤ tokens_in events
+
+-- whatever the events are, there are at most as many sessions as tokens
+abbrev pub MakesFewSessions : Type 0
+MakesFewSessions = (names : List (List ℕ)) (events : List (Event FormSymbol ValuedToken FormAction)) → length (input_told names (performs scripts_making events nothing_told)).sessions ≤ tokens_in events

@@ -1,6 +1,6 @@
 //! Laws of the definitions.
 ghost use Rattle.mars_scripts.specs.WellFormed.{MakesWellFormedInput, MakesTold, TellsTree};
-ghost use Rattle.mars_scripts.specs.Sizes.{MakesSmallInput};
+ghost use Rattle.mars_scripts.specs.Sizes.{MakesSmallInput, MakesFewSessions};
 
 use mars_clauses::clauses_are_well_formed;
 
@@ -24,4 +24,9 @@ pub fn trees_are_told()
 /// The trees that events put have together at most a node a token.
 pub fn inputs_are_small()
     ensures { MakesSmallInput }
+{}
+
+/// There are at most as many sessions as tokens.
+pub fn inputs_have_few_sessions()
+    ensures { MakesFewSessions }
 {}

@@ -7,7 +7,7 @@ use Rattle.mars_read.specs.declared.error.ReadError.{ReadError}
 use Rattle.mars_read.specs.Spellings.{all_names}
 use Rattle.mars_read.specs.ReadInput.{IsInputOf, IsReadInput, IsNoInputText, IsNoInput}
 use Rattle.mars_read.proofs.Readings.{short-text}
-use Rattle.mars_read.proofs.InputsMade.{input-well_formed, input-small}
+use Rattle.mars_read.proofs.InputsMade.{input-well_formed, input-small, input-few_sessions}
 use Rattle.mars_read.proofs.inputs.read_input.Goals as goal
 
 pub returns-clause-read : goal.returns-clause-read
@@ -26,6 +26,12 @@ returns-clause-small c =
     IfOk-weaker c.input_of_version.result (IsInputOf c.has_version_two-two.result c.args.bytes.now) (λ (i : Input). nodes_put i ≤ length c.args.bytes.now)
     (λ (input : Input) is. subst (λ (i : Input). nodes_put i ≤ length c.args.bytes.now) (sym is.input_is)
     (input-small c.has_version_two-two.result c.args.bytes.now is.value is.read c.inputs_are_small.ensures (all_names is.value.0))) c.input_of_version.ensures.read
+
+pub returns-clause-few : goal.returns-clause-few
+returns-clause-few c =
+    IfOk-weaker c.input_of_version.result (IsInputOf c.has_version_two-two.result c.args.bytes.now) (λ (i : Input). length i.sessions ≤ length c.args.bytes.now)
+    (λ (input : Input) is. subst (λ (i : Input). length i.sessions ≤ length c.args.bytes.now) (sym is.input_is)
+    (input-few_sessions c.has_version_two-two.result c.args.bytes.now is.value is.read c.inputs_have_few_sessions.ensures (all_names is.value.0))) c.input_of_version.ensures.read
 
 pub returns-clause-names : goal.returns-clause-names
 returns-clause-names c = c.input_of_version.ensures.names
