@@ -1,4 +1,4 @@
 pub mod Due
 pub mod Complete
-pub mod Texts
+pub mod OneOrder
 pub mod Runs

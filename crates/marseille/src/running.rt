@@ -1,5 +1,5 @@
 //! The run of an input on one thread, one event after the other, and in threads.
-ghost use Rattle.std.specs.Prelude.{◌≡◌, ◌↔◌, ◌<◌, ◌-◌, ◌^◌, IsTrue, All, IfOk, Some, length, map};
+ghost use Rattle.std.specs.Prelude.{◌≡◌, ◌↔◌, ◌<◌, ◌-◌, ◌^◌, IsTrue, All, IfOk, None, Some, length, map};
 ghost use Rattle.mars_scripts.specs.WellFormed.{IsWellFormedInput};
 ghost use Rattle.mars_session.specs.SessionPoints.{session_rules};
 ghost use Rattle.marseille.specs.Ran.{NamesSessions, IsRunInOrder, IsRunAlone, IsRunInThreads};
@@ -12,6 +12,7 @@ use mars_replay::World;
 use mars_rules::RuleBase;
 use mars_script::{Input, Options, SessionNumbers};
 use mars_session::Ran;
+use mars_table::legal_is_live;
 use std::alloc::Global;
 use std::sync::Wait;
 use std::thread::Threads;
@@ -62,7 +63,27 @@ fn run_in_order(
     ensures run { IfOk result (λ ran. IsRunInOrder input.now options order.now ran.cut ran.history.items ran.text.items) }
     ensures some { IfOk result (λ ran. 0 < length ran.text.items) }
 {
-    World::new(alloc, input, rules, options)?.run(order)
+    let world = World::new(alloc, input, rules, options)?;
+    world.run(order)
+}
+
+/// Each session in a thread of its own.
+fn run_together<G: Gate, R: Threads + Wait + Sync>(
+    rt: &R,
+    alloc: Global,
+    input: &Input,
+    rules: &[RuleBase],
+    options: Options,
+    gate: &G,
+) -> Result<Ran, NoMemory>
+    requires few { length input.now.sessions < 2 ^ 32 - 2 }
+    requires formed { IsWellFormedInput input.now }
+    requires rules { rules.now ≡ map (session_rules input.now) input.now.sessions }
+    ensures run { IfOk result (λ ran. IsRunInThreads input.now options None ran.cut ran.history.items ran.text.items) }
+    ensures some { IfOk result (λ ran. 0 < length ran.text.items) }
+{
+    legal_is_live();
+    run_sessions(rt, alloc, input, rules, options, gate)
 }
 
 /// All sessions on one thread. Where no order is named it is the empty one.
@@ -104,7 +125,7 @@ impl<'a, G: Gate, R: Threads + Wait + Sync> Runner for InThreads<'a, G, R> {
         order: &Option<SessionNumbers>,
     ) -> Result<Ran, NoMemory> {
         match order {
-            None => run_sessions(self.rt, alloc, input, rules, options, self.gate),
+            None => run_together(self.rt, alloc, input, rules, options, self.gate),
             Some(numbers) => run_in_order(alloc, input, rules, options, numbers.as_slice()),
         }
     }
