@@ -12,3 +12,4 @@ pub mod Mapped
 pub mod Beginnings
 pub mod Cuts
 pub mod SessionLemmas
+pub mod Crossing

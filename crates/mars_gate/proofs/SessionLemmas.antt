@@ -29,12 +29,6 @@ use Rattle.mars_gate.specs.SessionJobs.{session_job, LacksReply, LeavesCommand, 
 use Rattle.mars_gate.specs.CutRuns.{GivesCutRun}
 use Rattle.mars_gate.proofs.ListLemmas.{zip_get}
 
-pub later_itself : (s : SessionSeen) → IsLaterSession s s
-later_itself s = record { part = refl; leaves = λ l. l }
-
-pub later_on : (r s t : SessionSeen) → IsLaterSession r s → IsLaterSession s t → IsLaterSession r t
-later_on r s t a b = record { part = b.part ∙ a.part; leaves = λ l. b.leaves (a.leaves l) }
-
 -- an event over a door
 module _ (lone : Bool) (old : SessionSeen) (mine seen : List Entry) (new : SessionSeen) (mine_after seen_after : List Entry) where
   pub session_advances : (event : Event) → FollowsDoor lone old mine seen event new mine_after seen_after

@@ -1,6 +1,7 @@
 //! Sessions as jobs: an event of a session is an event of its job.
+ghost use Rattle.std.specs.Prelude.{refl};
+ghost use Rattle.std.proofs.Common.{◌∙◌};
 ghost use Rattle.mars_gate.specs.SessionJobs.{session_job, LacksReply, IsLaterSession, HasComeThrough};
-ghost use Rattle.mars_gate.proofs.SessionLemmas.{later_itself, later_on};
 
 use crate::job::{Advance, Job};
 use mars_session::{Event, Session, event};
@@ -15,9 +16,9 @@ impl<'a> Job for Session<'a> {
 
     ghost Later = { IsLaterSession };
 
-    ghost later_itself = { later_itself };
+    ghost later_itself = { λ s. record { part = refl; leaves = λ l. l } };
 
-    ghost later_on = { later_on };
+    ghost later_on = { λ r s t p q. record { part = q.part ∙ p.part; leaves = λ l. q.leaves (p.leaves l) } };
 
     fn event<D: Door>(&mut self, door: &mut D) -> Advance {
         let came = event(self, door);

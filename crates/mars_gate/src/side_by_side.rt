@@ -61,5 +61,6 @@ pub fn run_sessions<'r, G: Gate, R: Threads + Wait + Sync>(
 {
     let sessions = start_sessions(alloc, input, rules, options)?;
     let closed = run_jobs(rt, alloc, sessions, options.rows, gate)?;
-    tell(alloc, closed)
+    let ran = tell(alloc, closed)?;
+    Ok(ran)
 }
