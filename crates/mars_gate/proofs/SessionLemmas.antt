@@ -111,7 +111,7 @@ module _ (parts : List SessionPart) (rows : ℕ) (numbered : NumberedInOrder par
   were = ap length are ∙ length-map parts started_session
 
   count : length new ≡ length parts
-  count = AllZip-length (JobHasEnded session_job LacksReply IsLaterSession HasComeThrough history) old new zip ∙ were
+  count = sym (AllZip-length (JobHasEnded session_job LacksReply IsLaterSession HasComeThrough history) old new zip) ∙ were
 
   ended_at : (i : ℕ) (part : SessionPart) (s : SessionSeen) → slice_get parts i ≡ Some part → slice_get new i ≡ Some s → JobHasEnded session_job LacksReply IsLaterSession HasComeThrough history (started_session part) s
   ended_at i part s at_part at_s =
