@@ -21,9 +21,9 @@ use std::thread::Threads;
 
 /// The texts of sessions that are through, in order, and the line of the closing calls.
 fn tell(alloc: Global, closed: Closed<Session>) -> Result<Ran, NoMemory>
-    ensures history { IfOk result (λ ran. ran.history.items ≡ closed.table.history) }
-    ensures text { IfOk result (λ ran. ran.text.items ≡ flat_map session_text closed.jobs.items ++ last_line closed.replies.swept closed.replies.rows closed.replies.pins) }
-    ensures cut { IfOk result (λ ran. ran.cut ≡ list_any (λ s. s.cut) closed.jobs.items) }
+    ensures history { IfOk result (λ ran. ran.history.items ≡ closed.entry.table.history) }
+    ensures text { IfOk result (λ ran. ran.text.items ≡ flat_map session_text closed.entry.jobs.items ++ last_line closed.entry.replies.swept closed.entry.replies.rows closed.entry.replies.pins) }
+    ensures cut { IfOk result (λ ran. ran.cut ≡ list_any (λ s. s.cut) closed.entry.jobs.items) }
 {
     let Closed {
         jobs,
