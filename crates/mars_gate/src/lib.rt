@@ -1,4 +1,4 @@
-//! Jobs in threads over one book, and gates at their calls.
+//! Jobs in threads over one book, and gates at their calls; the sessions of an input as jobs.
 #![tactic(auto)]
 
 mod closing;
@@ -7,8 +7,13 @@ mod gate_door;
 mod job;
 mod passes;
 mod run;
+mod sessions;
+mod side_by_side;
+mod starting;
+mod telling;
 mod worker;
 
 pub use closing::ClosingReplies;
 pub use job::{Advance, Job};
 pub use run::{Closed, run_jobs};
+pub use side_by_side::run_sessions;
