@@ -8,8 +8,5 @@ pub mod FinishLemmas
 pub mod HireLemmas
 pub mod EndLemmas
 pub mod JobLemmas
-pub mod Mapped
-pub mod Beginnings
-pub mod Cuts
 pub mod SessionLemmas
 pub mod Crossing

@@ -17,10 +17,10 @@ use Rattle.mars_session.specs.DoorEvents.{FollowsDoor}
 use Rattle.mars_session.specs.Together.{IsWithEntries, EndsIn, cut_of}
 use Rattle.mars_session.specs.WholeRuns.{ClosesWith, IsCutRun}
 use Rattle.mars_session.specs.WorldLaws.{NumberedInOrder}
-use Rattle.mars_gate.proofs.Cuts.{cut_told, cut_found, joined}
-use Rattle.mars_gate.proofs.Mapped.{map_get, map_place}
+use Rattle.mars_replay.proofs.Cuts.{cut_told, cut_found, joined}
+use Rattle.mars_replay.proofs.Mapped.{map_get, map_place}
 use Rattle.mars_session.proofs.Numbering.{parts_are_numbered}
-use Rattle.mars_gate.proofs.Beginnings.{parts_count}
+use Rattle.mars_replay.proofs.Starting.{parts_count}
 use Rattle.mars_session.proofs.TogetherLemmas.{restart_wants, taken_mine, together_they_are_whole, uncut_is_whole}
 use Rattle.mars_gate.specs.declared.closing.ClosingReplies.{ClosingReplies}
 use Rattle.mars_gate.specs.Closing.{ClosingIsLast, closing_entries}

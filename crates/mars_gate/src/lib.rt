@@ -9,8 +9,6 @@ mod passes;
 mod run;
 mod sessions;
 mod side_by_side;
-mod starting;
-mod telling;
 mod worker;
 
 pub use closing::ClosingReplies;

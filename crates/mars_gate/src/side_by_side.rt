@@ -8,10 +8,9 @@ ghost use Rattle.mars_session.specs.SessionSeen.{session_text};
 ghost use Rattle.mars_gate.specs.CutRuns.{GivesCutRunOf};
 
 use crate::run::{Closed, run_jobs};
-use crate::starting::start_sessions;
-use crate::telling::{any_cut, push_last_line, push_texts};
 use mars_base::NoMemory;
 use mars_io::Gate;
+use mars_replay::{any_cut, push_last_line, push_texts, start_sessions};
 use mars_rules::RuleBase;
 use mars_script::{Input, Options};
 use mars_session::{Ran, Session};

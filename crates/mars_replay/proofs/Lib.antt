@@ -5,6 +5,7 @@ pub mod SoundWorlds
 pub mod Happenings
 pub mod Growing
 pub mod Through
+pub mod Cuts
 pub mod RunsWhole
 pub mod Left
 pub mod Starting

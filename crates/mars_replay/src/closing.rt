@@ -42,7 +42,7 @@ fn push_number(text: &mut Vec<u8>, number: u64) -> Result<(), NoMemory>
 }
 
 /// Writes the last line of all.
-pub(crate) fn push_last_line(
+pub fn push_last_line(
     text: &mut Vec<u8>,
     gone: u64,
     rows: u64,
@@ -61,7 +61,7 @@ pub(crate) fn push_last_line(
 }
 
 /// Writes the texts of sessions, in order.
-pub(crate) fn push_texts(text: &mut Vec<u8>, sessions: &[Session]) -> Result<(), NoMemory>
+pub fn push_texts(text: &mut Vec<u8>, sessions: &[Session]) -> Result<(), NoMemory>
     ensures { OnOk result (text.new.items ≡ text.old.items ++ flat_map session_text sessions.now) }
 {
     for session in sessions {
@@ -71,7 +71,7 @@ pub(crate) fn push_texts(text: &mut Vec<u8>, sessions: &[Session]) -> Result<(),
 }
 
 /// Whether one of the sessions was cut.
-pub(crate) fn any_cut(sessions: &[Session]) -> bool
+pub fn any_cut(sessions: &[Session]) -> bool
     ensures { result ≡ list_any (λ s. s.cut) sessions.now }
 {
     sessions.iter().any(|session| session.was_cut())

@@ -21,8 +21,9 @@ use mars_table::{Table, TableDoor};
 use std::alloc::Global;
 use std::marker::Model;
 
-/// Each session of an input, at its start.
-fn start_sessions<'r>(
+/// Each session of an input, at its start. `rules` has one rule base for each session, in order: the input's rules followed
+/// by the session's own.
+pub fn start_sessions<'r>(
     alloc: Global,
     input: &'r Input,
     rules: &'r [RuleBase],

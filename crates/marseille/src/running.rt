@@ -87,6 +87,7 @@ fn run_together<G: Gate, R: Threads + Wait + Sync>(
 }
 
 /// All sessions on one thread. Where no order is named it is the empty one.
+#[derive(Drop)]
 pub(crate) struct OneThread;
 
 impl Runner for OneThread {
@@ -108,6 +109,7 @@ impl Runner for OneThread {
 }
 
 /// Each session in a thread of its own, with a gate at each table call. With an order they are on one thread.
+#[derive(Drop)]
 pub(crate) struct InThreads<'a, G: Gate, R: Threads + Wait + Sync> {
     pub(crate) rt: &'a R,
     pub(crate) gate: &'a G,
