@@ -56,15 +56,15 @@ module _ (lone : Bool) (old : SessionSeen) (mine seen : List Entry) (new : Sessi
     does = elim f.door [
       | inl same ↦ inl (record { calls = ap (λ (s : SessionSeen). s.point.mine) f.cut; made = same.0; saw = same.1; stays_cut = λ t. ap (λ (s : SessionSeen). s.cut) f.cut })
       | inr c ↦ inr (inr (record {
-          entry = call_entry old.part.who c.0 c.1;
-          lacking = subst (λ (s : SessionSeen). LacksReply s (call_entry old.part.who c.0 c.1)) (sym f.cut)
-              (record { call = c.0; reply = c.1; wants = restart_wants old.part old.point c.0 c.2.wants; answers = c.3; entry_is = refl });
-          going = f.went.going;
-          cut = ap (λ (s : SessionSeen). s.cut) f.cut;
-          calls = ap (λ (s : SessionSeen). s.point.mine) f.cut;
-          made = c.4.more;
-          sees = c.4.sees;
-        }))
+        entry = call_entry old.part.who c.0 c.1;
+        lacking = subst (λ (s : SessionSeen). LacksReply s (call_entry old.part.who c.0 c.1)) (sym f.cut)
+            (record { call = c.0; reply = c.1; wants = restart_wants old.part old.point c.0 c.2.wants; answers = c.3; entry_is = refl });
+        going = f.went.going;
+        cut = ap (λ (s : SessionSeen). s.cut) f.cut;
+        calls = ap (λ (s : SessionSeen). s.point.mine) f.cut;
+        made = c.4.more;
+        sees = c.4.sees;
+      }))
     ];
   }
 

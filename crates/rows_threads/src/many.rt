@@ -57,9 +57,9 @@ fn push_many(alloc: Global, ran: &Ran, into: &mut Vec<u8>) -> Result<(), Stop> {
     let one = have_one_handle(history);
     let entries = history.len();
     let cut = ran.cut;
-    into.extend_from_slice(
-        format!(in alloc; "one handle {one}, entries {entries}, cut {cut}")?.as_bytes(),
-    )?;
+    into.extend_from_slice(format!(in alloc;
+        "one handle {one}, entries {entries}, cut {cut}"
+    )?.as_bytes())?;
     push_counts(alloc, history, into)
 }
 
@@ -126,10 +126,12 @@ fn handle_in(entry: &Entry) -> Option<Handle> {
 /// Writes what the last call, which counts, was told.
 fn push_counts(alloc: Global, history: &[Entry], into: &mut Vec<u8>) -> Result<(), Stop> {
     match history.last() {
-        Some(Entry {
-            reply: Reply::Counted { rows, pins },
-            ..
-        }) => {
+        Some(
+            Entry {
+                reply: Reply::Counted { rows, pins },
+                ..
+            },
+        ) => {
             into.extend_from_slice(format!(in alloc; ", rows {rows}, pins {pins}")?.as_bytes())?;
             Ok(())
         }
