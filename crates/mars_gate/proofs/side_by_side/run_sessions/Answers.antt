@@ -16,12 +16,12 @@ pub run_jobs-requires-send-J : goal.run_jobs-requires-send-J
 run_jobs-requires-send-J g c κs = search (param_send, arg_send, session_send)
 
 pub run_jobs-requires-clause-few : goal.run_jobs-requires-clause-few
-run_jobs-requires-clause-few g c =
+run_jobs-requires-clause-few g c κs lives =
     let sessions = c.in_ok-sessions.sessions in
     few_sessions c.args.input.now c.args.options sessions.items (vec_len sessions) c.in_ok-sessions.ensures (omega (arith, sessions.ok.0)) c.requires.few
 
 pub run_jobs-requires-clause-new : goal.run_jobs-requires-clause-new
-run_jobs-requires-clause-new g c =
+run_jobs-requires-clause-new g c κs lives =
     subst (λ (l : List SessionSeen). AreNewJobs session_job l) (sym c.in_ok-sessions.ensures) (new_sessions c.args.input.now c.args.options)
 
 pub returns : goal.returns
