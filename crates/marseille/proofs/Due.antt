@@ -11,7 +11,6 @@ use Rattle.mars_read.specs.Refused.{is_too_long}
 use Rattle.mars_table.specs.declared.entry.Entry.{Entry}
 use Rattle.marseille.specs.declared.status.Status.{Status}
 use Rattle.marseille.specs.declared.status.Status.TheVariants as status
-use Rattle.marseille.specs.Ran.{RunRelation}
 use Rattle.marseille.specs.Words.{AreRunAs}
 use Rattle.marseille.specs.Top.{SaysInput, ReadsInput, IsRunOf, IsMisordered, IsDueWith, IsDueAs, IsDue}
 use Rattle.marseille.specs.Top.RefusesWords.{misordered}
@@ -29,19 +28,23 @@ ended new bytes (inr long) short = absurd (omega (arith, within_limit bytes shor
 reads : (IsSo : Input → Type 0) (old new : Option (List ℕ)) (bytes : List ℕ) → HasRead TEXT_LIMIT old new bytes → SaysInput IsSo bytes → ReadsInput IsSo old new
 reads IsSo old new bytes read says = record { bytes = bytes; consumed = read.consumed; ended = ended new bytes read.ends says.says.read.short; says = says }
 
-pub due_after : (IsRun : RunRelation) (options : Options) (order : Option (List ℕ)) (old new : Option (List ℕ)) (bytes : List ℕ) (history : List Entry) (output : List ℕ) (s : Status) →
-    HasRead TEXT_LIMIT old new bytes → IsDueWith IsRun options order bytes history output s → IsDueAs IsRun options order old new history output s
-due_after IsRun options order old new bytes history output status.Done read is = reads (IsRunOf IsRun options order false history output) old new bytes read is
-due_after IsRun options order old new bytes history output status.Memory read is = reads (IsRunOf IsRun options order true history output) old new bytes read is
-due_after IsRun options order old new bytes history output status.Words read is = reads (IsMisordered order history output) old new bytes read is
-due_after IsRun options order old new bytes history output status.Refused read is = record { bytes = bytes; read = read; refused = is }
-due_after IsRun options order old new bytes history output _ read is = absurd is
+pub due_after : (options : Options) (order : List ℕ) (old new : Option (List ℕ)) (bytes : List ℕ) (history : List Entry) (output : List ℕ) (s : Status) →
+    HasRead TEXT_LIMIT old new bytes → IsDueWith options order bytes history output s → IsDueAs options order old new history output s
+due_after options order old new bytes history output status.Done read is = reads (IsRunOf options order false history output) old new bytes read is
+due_after options order old new bytes history output status.Memory read is = reads (IsRunOf options order true history output) old new bytes read is
+due_after options order old new bytes history output status.Words read is = reads (IsMisordered order history output) old new bytes read is
+due_after options order old new bytes history output status.Refused read is = record { bytes = bytes; read = read; refused = is }
+due_after options order old new bytes history output _ read is = absurd is
 
 -- what is due with words that are run
-pub due_of : (IsRun : RunRelation) (texts : List (List ℕ)) (options : Options) (order : Option (List ℕ)) (old new : Option (List ℕ)) (history : List Entry) (output : List ℕ) (s : Status) →
-    AreRunAs texts options order → IsDueAs IsRun options order old new history output s → IsDue IsRun texts old new history output s
-due_of IsRun texts options order old new history output status.Done run is = record { options = options; order = order; run = run; is = is }
-due_of IsRun texts options order old new history output status.Memory run is = record { options = options; order = order; run = run; is = is }
-due_of IsRun texts options order old new history output status.Words run is = misordered (record { options = options; order = order; run = run; is = is })
-due_of IsRun texts options order old new history output status.Refused run is = ((options, order, run), is)
-due_of IsRun texts options order old new history output _ run is = absurd is
+pub due_of : (texts : List (List ℕ)) (options : Options) (order : List ℕ) (old new : Option (List ℕ)) (history : List Entry) (output : List ℕ) (s : Status) →
+    AreRunAs texts options order → IsDueAs options order old new history output s → IsDue texts old new history output s
+due_of texts options order old new history output status.Done run is = record { options = options; order = order; run = run; is = is }
+due_of texts options order old new history output status.Memory run is = record { options = options; order = order; run = run; is = is }
+due_of texts options order old new history output status.Words run is = misordered (record { options = options; order = order; run = run; is = is })
+due_of texts options order old new history output status.Refused run is = ((options, order, run), is)
+due_of texts options order old new history output _ run is = absurd is
+
+-- a status that isn't that of a fault or of out of memory with nothing
+pub due_is_no_fault : (options : Options) (order : List ℕ) (old new : Option (List ℕ)) (history : List Entry) (output : List ℕ) → IsDueAs options order old new history output status.Write → ⊥
+due_is_no_fault options order old new history output is = is

@@ -1,4 +1,5 @@
 pub mod Due
 pub mod Complete
 pub mod OneOrder
+pub mod Texts
 pub mod Runs

@@ -2,20 +2,19 @@
 #![tactic(auto)]
 
 mod refusal;
-mod runner;
 mod running;
 mod status;
 mod top;
 mod words;
 
 use mars_base::NoMemory;
-use mars_io::{FromReader, OpenGate, ToWriter};
+use mars_io::{FromReader, ToWriter};
 use status::{Outcome, Status};
 use std::alloc::Global;
 use std::io::ErrorKind;
 use std::process::ExitCode;
 use std::{env, io};
-use top::marseille;
+use top::marseille_alone;
 
 /// The words after the program's name. Where one of them isn't UTF-8, they are one empty word, which isn't accepted.
 fn words_of(rt: &(impl std::rt::Env + Alloc<A = Global>)) -> Result<Vec<String>, NoMemory> {
@@ -38,7 +37,6 @@ fn main(rt: HostRuntime) -> ExitCode {
     };
     let mut source = FromReader::new(rt.reader());
     let mut sink = ToWriter::new(io::writer(&rt));
-    let Outcome { status, .. } =
-        marseille(&rt, rt.alloc(), &words, &mut source, &mut sink, &OpenGate);
+    let Outcome { status, .. } = marseille_alone(rt.alloc(), &words, &mut source, &mut sink);
     ExitCode::from(status.number())
 }

@@ -10,9 +10,8 @@ use std::alloc::Global;
 /// What the program does with its words.
 #[derive(Debug, Drop)]
 pub enum Taken {
-    /// They name a mode and options that are there: the sessions are run, with events in the order that they name, if they
-    /// name one.
-    Run(Options, Option<SessionNumbers>),
+    /// They name a mode and options that are there: the sessions are run, with events in this order first.
+    Run(Options, SessionNumbers),
     /// They are accepted, but such a mode or option isn't there yet.
     Unbuilt,
     /// They aren't accepted.
@@ -20,7 +19,7 @@ pub enum Taken {
 }
 
 /// What the program does with words that say this.
-fn take_said(words: &[String], said: Words) -> Taken
+fn take_said(alloc: Global, words: &[String], said: Words) -> Taken
     requires { IsWords (texts_of words.now) said }
     ensures { AreTakenAs (texts_of words.now) result }
 {
@@ -29,8 +28,8 @@ fn take_said(words: &[String], said: Words) -> Taken
         return Taken::Unbuilt;
     }
     match mode {
-        Mode::Run => Taken::Run(options, None),
-        Mode::Order(order) => Taken::Run(options, Some(order)),
+        Mode::Run => Taken::Run(options, SessionNumbers::new(alloc)),
+        Mode::Order(order) => Taken::Run(options, order),
         Mode::Replay | Mode::Make { .. } => Taken::Unbuilt,
     }
 }
@@ -40,7 +39,7 @@ pub(crate) fn take_words(alloc: Global, words: &[String]) -> Result<Taken, NoMem
     ensures { IfOk result (AreTakenAs (texts_of words.now)) }
 {
     match read_words(alloc, words) {
-        Ok(said) => Ok(take_said(words, said)),
+        Ok(said) => Ok(take_said(alloc, words, said)),
         Err(WordsError::Bad) => Ok(Taken::Refused),
         Err(WordsError::NoMemory) => Err(NoMemory),
     }

@@ -1,4 +1,4 @@
-use Rattle.std.proofs.Common.{ℕ, ◌<◌, List, [], ◌++◌, length}
+use Rattle.std.proofs.Common.{ℕ, List, [], ◌++◌}
 use Rattle.std.proofs.lemmas.Result.{IfOk-weaker}
 use Rattle.mars_script.specs.declared.script.Input.{Input}
 use Rattle.mars_script.specs.declared.words.Options.{Options}
@@ -6,24 +6,16 @@ use Rattle.mars_session.specs.declared.ran.Ran.{Ran}
 use Rattle.mars_replay.specs.WorldSeen.{input_world, AreWorldEvents}
 use Rattle.mars_replay.specs.WorldRuns.{GivesRunOf}
 use Rattle.marseille.specs.Ran.{IsRunInOrder}
-use Rattle.marseille.proofs.Runs.{run_in_order, order_some, names_in_world}
+use Rattle.marseille.proofs.Runs.{run_in_order, names_in_world}
 use Rattle.marseille.proofs.running.run_in_order.Goals as goal
 
 pub run-requires : goal.run-requires
 run-requires c = names_in_world c.args.input.now c.args.options c.args.order.now c.in_ok-world.world c.in_ok-world.ensures c.requires.named
 
-pub returns-clause-run : goal.returns-clause-run
-returns-clause-run c =
+pub returns : goal.returns
+returns c =
     IfOk-weaker c.run.result
     (λ (ran : Ran). (input : Input) (options : Options) (before : List ℕ) → AreWorldEvents before (input_world input options) c.in_ok-world.world → GivesRunOf input options (before ++ c.args.order.now) ran.history.items ran.text.items ran.cut)
     (λ (ran : Ran). IsRunInOrder c.args.input.now c.args.options c.args.order.now ran.cut ran.history.items ran.text.items)
     (λ ran gives. run_in_order c.args.input.now c.args.options c.args.order.now ran.cut ran.history.items ran.text.items (gives c.args.input.now c.args.options [] c.in_ok-world.ensures))
-    c.run.ensures.gives
-
-pub returns-clause-some : goal.returns-clause-some
-returns-clause-some c =
-    IfOk-weaker c.run.result
-    (λ (ran : Ran). (input : Input) (options : Options) (before : List ℕ) → AreWorldEvents before (input_world input options) c.in_ok-world.world → GivesRunOf input options (before ++ c.args.order.now) ran.history.items ran.text.items ran.cut)
-    (λ (ran : Ran). 0 < length ran.text.items)
-    (λ ran gives. order_some c.args.input.now c.args.options c.args.order.now ran.history.items ran.text.items ran.cut (gives c.args.input.now c.args.options [] c.in_ok-world.ensures))
     c.run.ensures.gives
