@@ -42,12 +42,7 @@ fn push_number(text: &mut Vec<u8>, number: u64) -> Result<(), NoMemory>
 }
 
 /// Writes the last line of all.
-pub fn push_last_line(
-    text: &mut Vec<u8>,
-    gone: u64,
-    rows: u64,
-    pins: u64,
-) -> Result<(), NoMemory>
+pub fn push_last_line(text: &mut Vec<u8>, gone: u64, rows: u64, pins: u64) -> Result<(), NoMemory>
     ensures { OnOk result (text.new.items ≡ text.old.items ++ last_line gone rows pins) }
 {
     text.extend_from_slice(b"swept ")?;
