@@ -1,11 +1,12 @@
 /* Loaded before the C library: counts the calls of malloc and realloc, and lets one of them fail, that of the number
-   FAILING_ALLOCATION, from 1 on. At the end the count is written to standard error. */
+   FAILING_ALLOCATION, from 1 on, in whatever thread. At the end the count is written to standard error. */
 #define _GNU_SOURCE
 #include <dlfcn.h>
 #include <stdio.h>
 #include <stdlib.h>
 
-static unsigned long calls, failing;
+static _Atomic unsigned long calls;
+static unsigned long failing;
 
 __attribute__((constructor)) static void begin(void) {
     const char *number = getenv("FAILING_ALLOCATION");
