@@ -2,13 +2,12 @@ use Rattle.std.proofs.Common.{◌≡◌, refl, ap, sym, ◌∙◌, subst, arith,
 use Rattle.std.specs.Prelude.{false}
 use Rattle.mars_machine.specs.Machines.{SeenMachine}
 use Rattle.mars_answer.specs.declared.answers.Answer.{Answer}
-use Rattle.mars_session.specs.declared.asking.Asking.{Asking}
 use Rattle.mars_session.specs.declared.session.Session.TheInside.{Inside}
 use Rattle.mars_session.specs.TextSeen.{TextSeen, text_with}
 use Rattle.mars_session.specs.SessionEvents.{stepped_by, later_answer}
 use Rattle.mars_session.specs.SessionSeen.{SessionSeen, MovesOn}
 use Rattle.mars_session.specs.AskingInside.{event_seen, answer_canon}
-use Rattle.mars_session.specs.NextInside.{AsksNext, RunsOn, RunsAsk}
+use Rattle.mars_session.specs.NextInside.{AsksNext, RunsOn}
 use Rattle.mars_session.specs.SessionInside.{part_in, point_in, seen_in, IsSessionKept}
 use Rattle.mars_session.proofs.Turning.{kept_on, reached_on, one_on, ask_went, runs_went}
 use Rattle.mars_session.proofs.session.Session.go_on.Goals as goal
