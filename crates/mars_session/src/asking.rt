@@ -1,7 +1,8 @@
 //! The events of an ask, by its machine.
 ghost use Rattle.std.specs.Prelude.{◌≡◌, ◌+◌, ◌++◌, IfOk, OnOk, is_some, false, true, length};
 ghost use Rattle.mars_term.specs.Clauses.{IsAsk};
-ghost use Rattle.mars_session.specs.Lines.{told_answer};
+ghost use Rattle.mars_session.specs.Lines.{told_line, told_answer};
+ghost use Rattle.mars_session.specs.LinesInside.{CanBeWritten};
 ghost use Rattle.mars_session.specs.AskEvents.{IsStepEvent};
 ghost use Rattle.mars_session.specs.AskingInside.{event_seen, IsAskGoing, IsBegun, ending_at, is_enough, end_text, counted_answer, answer_canon};
 
@@ -62,6 +63,27 @@ fn answer_of(stepped: Stepped) -> Option<Answer>
     }
 }
 
+/// Writes what a step tells, with so many answers before it, and gives the answer that it tells. Most steps tell nothing.
+fn tell(
+    line: &mut Vec<u8>,
+    names: &Names,
+    vars: &[NameId],
+    count: u64,
+    stepped: Stepped,
+) -> Result<Option<Answer>, NoMemory>
+    requires { CanBeWritten vars.now stepped }
+    ensures line { OnOk result (line.new.items ≡ line.old.items ++ told_line names.now vars.now count stepped) }
+    ensures answer { IfOk result (λ answer. answer_canon answer ≡ told_answer stepped) }
+{
+    match stepped {
+        Stepped::Went => Ok(None),
+        stepped => {
+            push_told(line, names, vars, count, &stepped)?;
+            Ok(answer_of(stepped))
+        }
+    }
+}
+
 /// So many answers and one more, where there is one.
 fn count_answer(answers: u64, answer: &Option<Answer>) -> Result<u64, NoMemory>
     ensures { IfOk result (λ more. more ≡ counted_answer answers (answer_canon answer.now)) }
@@ -113,8 +135,7 @@ pub(crate) fn step_ask<'a>(
     let machine = asking.machine.as_mut();
     let stepped = machine.step()?;
     let mut text = Vec::new(alloc);
-    push_told(&mut text, names, vars, asking.answers, &stepped)?;
-    let answer = answer_of(stepped);
+    let answer = tell(&mut text, names, vars, asking.answers, stepped)?;
     asking.answers = count_answer(asking.answers, &answer)?;
     let steps = machine.steps();
     let left = machine.left();

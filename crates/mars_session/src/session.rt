@@ -69,13 +69,21 @@ impl<'a> Model for Session<'a> {
     ghost invariant = { IsSessionKept };
 }
 
-/// The later of two answers.
-fn later(earlier: Option<Answer>, answer: Option<Answer>) -> Option<Answer>
-    ensures { answer_canon result ≡ later_answer (answer_canon earlier) (answer_canon answer) }
+/// Keeps the later of two answers.
+fn keep_later(kept: &mut Option<Answer>, answer: Option<Answer>)
+    ensures { answer_canon kept.new ≡ later_answer (answer_canon kept.old) (answer_canon answer) }
 {
-    match answer {
-        Some(answer) => Some(answer),
-        None => earlier,
+    if let Some(answer) = answer {
+        *kept = Some(answer);
+    }
+}
+
+/// Gives up a wish, where there is one.
+fn give_up(wish: &mut Option<Wish>)
+    ensures { wish.new ≡ None }
+{
+    if wish.is_some() {
+        *wish = None;
     }
 }
 
@@ -170,10 +178,10 @@ impl<'a> Session<'a> {
     {
         self.text.push(&event.text)?;
         self.text.end();
-        let earlier = self.answer.take();
+        keep_later(&mut self.answer, event.answer);
         self.latest = Some(Latest {
             vars: ask.vars.as_slice(),
-            answer: later(earlier, event.answer),
+            answer: self.answer.take(),
         });
         self.done += 1;
         self.steps = 0;
@@ -193,11 +201,10 @@ impl<'a> Session<'a> {
         // the steps are below the budget, which is a `u64`
         let _budget = self.budget;
         self.text.push(&event.text)?;
-        let earlier = self.answer.take();
-        self.answer = later(earlier, event.answer);
+        keep_later(&mut self.answer, event.answer);
         self.steps += 1;
         self.asking = Some(asking);
-        self.pending = None;
+        give_up(&mut self.pending);
         Ok(())
     }
 
@@ -252,8 +259,21 @@ impl<'a> Session<'a> {
         ensures err { OnErr result (self.new ≡ self.old) }
     {
         if self.steps > 0 {
-            return self.step(ask);
+            self.step(ask)
+        } else {
+            self.begin(ask)
         }
+    }
+
+    /// Does the first event of an ask.
+    #[inline(never)]
+    fn begin(&mut self, ask: &'a Ask) -> Result<(), NoMemory>
+        requires new { self.old.point.steps ≡ 0 }
+        requires going { self.old.cut ≡ false }
+        requires next { slice_get self.old.part.commands self.old.point.done ≡ Some (Command.Ask ask.now) }
+        ensures ok { OnOk result (MovesOn self.old self.new) }
+        ensures err { OnErr result (self.new ≡ self.old) }
+    {
         match open_ask(self.alloc, self.rules, &self.map, ask, self.budget)? {
             None => self.write_line(b"no name\n"),
             Some(Begun::Ended(event)) => self.end_ask(ask, event),
@@ -283,6 +303,7 @@ impl<'a> Session<'a> {
     }
 
     /// Does the next event, where the next command is no ask, or tells its call.
+    #[inline(never)]
     fn turn_command(&mut self, command: &Command) -> Result<Turned, NoMemory>
         requires going { self.old.cut ≡ false }
         requires next { slice_get self.old.part.commands self.old.point.done ≡ Some command.now }

@@ -27,14 +27,14 @@ returns-clause-event c =
     let told : IsMachineStep m stepped = subst (λ (x : SeenMachine). IsMachineStep x stepped) at c.in_ok-stepped.ensures.told in
     let on : c.step.new.self ≡ stepped_on m = c.in_ok-stepped.ensures.new ∙ ap (λ (x : SeenMachine). stepped_machine x stepped) at ∙ after_step c.args.budget m answers stepped c.requires.runs told in
     let left = subst (λ (x : SeenMachine). TellsLeft x c.left-left.result) on (c.left-left.ensures (ap (λ (x : SeenMachine). x.broken) on ∙ c.requires.runs.works)) in
-    let counted : c.in_ok-asking.field-0 ≡ counted_answer answers (told_answer stepped) = c.in_ok-asking.ensures ∙ ap (λ (x : Option Rooted). counted_answer answers x) c.answer_of-answer.ensures in
+    let counted : c.in_ok-asking.field-0 ≡ counted_answer answers (told_answer stepped) = c.in_ok-asking.ensures ∙ ap (λ (x : Option Rooted). counted_answer answers x) c.in_ok-answer.ensures.answer in
     let steps : c.steps-steps.result ≡ m.steps + 1 = c.steps-steps.ensures ∙ ap (λ (x : SeenMachine). x.steps) on in
     let o_is : o ≡ ending_at m.ask.most (counted_answer answers (told_answer stepped)) c.left-left.result (m.steps + 1) c.args.budget =
     c.ending_at-ending.ensures ∙ (λ i. ending_at (c.requires.most i) (counted i) c.left-left.result (steps i) c.args.budget) in
     let text : c.push_end.new.line.items ≡ told_line c.args.names.now m.ask.vars answers stepped ++ end_text o (m.steps + 1) =
-    c.in_ok-ends.ensures.line ∙ (λ i. (c.in_ok-push_told.ensures ∙ (λ j. c.new-text.ensures.items j ++ told_line c.args.names.now (c.requires.vars j) answers stepped)) i ++ end_text o (steps i)) in
-    let event : event_seen (record { text = c.push_end.new.line; answer = c.answer_of-answer.result; ends = c.in_ok-ends.ends }) ≡ found_event c.args.names.now m answers stepped o =
-    λ i. record { text = text i; answer = c.answer_of-answer.ensures i; ends = c.in_ok-ends.ensures.ends i } in
+    c.in_ok-ends.ensures.line ∙ (λ i. (c.in_ok-answer.ensures.line ∙ (λ j. c.new-text.ensures.items j ++ told_line c.args.names.now (c.requires.vars j) answers stepped)) i ++ end_text o (steps i)) in
+    let event : event_seen (record { text = c.push_end.new.line; answer = c.in_ok-answer.answer; ends = c.in_ok-ends.ends }) ≡ found_event c.args.names.now m answers stepped o =
+    λ i. record { text = text i; answer = c.in_ok-answer.ensures.answer i; ends = c.in_ok-ends.ensures.ends i } in
     subst (λ (e : AskEvent). IsStepEvent c.args.names.now m.rules m.ask m.kept c.args.budget m.steps e) (sym event)
     (step_event c.args.names.now c.args.budget m answers stepped c.left-left.result c.requires.runs told left o o_is)
 
@@ -48,7 +48,7 @@ returns-clause-on c none =
     let told : IsMachineStep m stepped = subst (λ (x : SeenMachine). IsMachineStep x stepped) at c.in_ok-stepped.ensures.told in
     let on : c.step.new.self ≡ stepped_on m = c.in_ok-stepped.ensures.new ∙ ap (λ (x : SeenMachine). stepped_machine x stepped) at ∙ after_step c.args.budget m answers stepped c.requires.runs told in
     let left = subst (λ (x : SeenMachine). TellsLeft x c.left-left.result) on (c.left-left.ensures (ap (λ (x : SeenMachine). x.broken) on ∙ c.requires.runs.works)) in
-    let counted : c.in_ok-asking.field-0 ≡ counted_answer answers (told_answer stepped) = c.in_ok-asking.ensures ∙ ap (λ (x : Option Rooted). counted_answer answers x) c.answer_of-answer.ensures in
+    let counted : c.in_ok-asking.field-0 ≡ counted_answer answers (told_answer stepped) = c.in_ok-asking.ensures ∙ ap (λ (x : Option Rooted). counted_answer answers x) c.in_ok-answer.ensures.answer in
     let steps : c.steps-steps.result ≡ m.steps + 1 = c.steps-steps.ensures ∙ ap (λ (x : SeenMachine). x.steps) on in
     let o_is : o ≡ ending_at m.ask.most (counted_answer answers (told_answer stepped)) c.left-left.result (m.steps + 1) c.args.budget =
     c.ending_at-ending.ensures ∙ (λ i. ending_at (c.requires.most i) (counted i) c.left-left.result (steps i) c.args.budget) in

@@ -1,14 +1,12 @@
-use Rattle.std.proofs.Common.{◌≡◌, refl, ap, sym, ◌∙◌, subst, arith, ℕ, ◌+◌, ◌<◌, Option, Some, None}
+use Rattle.std.proofs.Common.{◌≡◌, refl, ap, sym, ◌∙◌, subst, arith, ℕ, ◌+◌, ◌<◌, Some}
 use Rattle.std.specs.Prelude.{false}
 use Rattle.mars_machine.specs.Machines.{SeenMachine}
-use Rattle.mars_answer.specs.declared.answers.Answer.{Answer}
-use Rattle.mars_session.specs.declared.asking.Asking.{Asking}
 use Rattle.mars_session.specs.declared.session.Session.TheInside.{Inside}
 use Rattle.mars_session.specs.TextSeen.{TextSeen, text_with}
 use Rattle.mars_session.specs.SessionEvents.{stepped_by, later_answer}
 use Rattle.mars_session.specs.SessionSeen.{SessionSeen, MovesOn}
 use Rattle.mars_session.specs.AskingInside.{event_seen, answer_canon}
-use Rattle.mars_session.specs.NextInside.{AsksNext, RunsOn, RunsAsk}
+use Rattle.mars_session.specs.NextInside.{AsksNext, RunsOn}
 use Rattle.mars_session.specs.SessionInside.{part_in, point_in, seen_in, IsSessionKept}
 use Rattle.mars_session.proofs.Turning.{kept_on, reached_on, one_on, ask_went, runs_went}
 use Rattle.mars_session.proofs.session.Session.go_on.Goals as goal
@@ -24,12 +22,12 @@ overflow_add-self c =
 pub invariant_of-self-2 : goal.invariant_of-self-2
 invariant_of-self-2 c =
     let p : Inside = c.self.inside in
-    let q : Inside = record p { steps = p.steps + 1; answer = c.later.result; asking = Some c.args.asking; pending = None; text = c.push.new.self } in
+    let q : Inside = record p { steps = p.steps + 1; answer = c.keep_later.new.kept; asking = Some c.args.asking; pending = c.give_up.new.wish; text = c.push.new.self } in
     let e = c.args.event in
     let ask = c.args.ask.now in
     let next : AsksNext (seen_in p) ask e = subst (λ (s : SessionSeen). AsksNext s ask e) (sym c.self.view_is) c.requires.next in
     let text : c.push.new.self ≡ text_with p.text e.text.items = c.in_ok-push.ensures.ok ∙ ap (text_with p.text) c.deref.ensures.value in
-    let answer : answer_canon c.later.result ≡ later_answer (answer_canon p.answer) (answer_canon e.answer) = c.later.ensures ∙ ap (λ (o : Option Answer). later_answer (answer_canon o) (answer_canon e.answer)) c.take-earlier.ensures.value in
+    let answer : answer_canon c.keep_later.new.kept ≡ later_answer (answer_canon p.answer) (answer_canon e.answer) = c.keep_later.ensures in
     let to : point_in q ≡ stepped_by false ask.vars (event_seen e) (point_in p) = λ i. record {
       done = p.done;
       steps = one_on p.steps i;
@@ -43,17 +41,17 @@ invariant_of-self-2 c =
     let went = ask_went p q ask e next c.requires.on to in
     let runs : RunsOn (seen_in p) ask c.args.asking = subst (λ (s : SessionSeen). RunsOn s ask c.args.asking) (sym c.self.view_is) c.requires.runs in
     kept_on q (reached_on (part_in p) (point_in p) (point_in q) c.self.invariant.reached went) c.self.invariant.asks
-    (λ a is. runs_went (seen_in p) (point_in q) ask (event_seen e) c.args.asking runs to a is) refl
+    (λ a is. runs_went (seen_in p) (point_in q) ask (event_seen e) c.args.asking runs to a is) c.give_up.ensures
 
 pub returns-clause-ok : goal.returns-clause-ok
 returns-clause-ok c =
     let p : Inside = c.self.inside in
-    let q : Inside = record p { steps = p.steps + 1; answer = c.later.result; asking = Some c.args.asking; pending = None; text = c.push.new.self } in
+    let q : Inside = record p { steps = p.steps + 1; answer = c.keep_later.new.kept; asking = Some c.args.asking; pending = c.give_up.new.wish; text = c.push.new.self } in
     let e = c.args.event in
     let ask = c.args.ask.now in
     let next : AsksNext (seen_in p) ask e = subst (λ (s : SessionSeen). AsksNext s ask e) (sym c.self.view_is) c.requires.next in
     let text : c.push.new.self ≡ text_with p.text e.text.items = c.in_ok-push.ensures.ok ∙ ap (text_with p.text) c.deref.ensures.value in
-    let answer : answer_canon c.later.result ≡ later_answer (answer_canon p.answer) (answer_canon e.answer) = c.later.ensures ∙ ap (λ (o : Option Answer). later_answer (answer_canon o) (answer_canon e.answer)) c.take-earlier.ensures.value in
+    let answer : answer_canon c.keep_later.new.kept ≡ later_answer (answer_canon p.answer) (answer_canon e.answer) = c.keep_later.ensures in
     let to : point_in q ≡ stepped_by false ask.vars (event_seen e) (point_in p) = λ i. record {
       done = p.done;
       steps = one_on p.steps i;

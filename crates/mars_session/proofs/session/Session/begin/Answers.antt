@@ -1,4 +1,4 @@
-use Rattle.std.proofs.Common.{◌≡◌, ap, sym, ◌∙◌, subst, List, [], ◌∷◌, Some, None, arith}
+use Rattle.std.proofs.Common.{◌≡◌, ap, sym, ◌∙◌, subst, List, [], ◌∷◌, Some, None}
 use Rattle.std.specs.Prelude.{slice_get}
 use Rattle.mars_tree.specs.Graph.{Node}
 use Rattle.mars_script.specs.declared.script.Command.TheVariants as command
@@ -11,7 +11,7 @@ use Rattle.mars_session.specs.AskingInside.{IsBegun}
 use Rattle.mars_session.specs.NextInside.{AsksNext, WritesNext}
 use Rattle.mars_session.specs.SessionInside.{part_in, point_in}
 use Rattle.mars_session.proofs.Turning.{unnamed_act, at_once}
-use Rattle.mars_session.proofs.session.Session.turn_ask.Goals as goal
+use Rattle.mars_session.proofs.session.Session.begin.Goals as goal
 
 pub write_line-requires : goal.write_line-requires
 write_line-requires c =
@@ -33,7 +33,7 @@ end_ask-requires-clause-next c =
     let e = c.in-Some-Ended.event in
     let b : (kept : List (List Node)) × (named_trees c.deref.result.now ask.kept ≡ Some kept) × IsBegun p.rules.now ask kept p.budget c.in-Some-Ended.field-0 = rw c.in-Some-Ended.is at c.in_ok-open_ask.ensures in
     let ended = subst (λ (x : Begun). IsBegun p.rules.now ask b.0 p.budget x) c.in-Some-Ended.field-0-is b.2 in
-    let none_done : p.steps ≡ 0 = omega (arith, c.if-self-gt0.false) in
+    let none_done : p.steps ≡ 0 = ap (λ (s : SessionSeen). s.point.steps) c.self.view_is ∙ c.requires.new in
     subst (λ (s : SessionSeen). AsksNext s ask e) c.self.view_is (record {
       going = ap (λ (s : SessionSeen). s.cut) c.self.view_is ∙ c.requires.going;
       kept = b.0;
