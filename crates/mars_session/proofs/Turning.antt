@@ -142,7 +142,7 @@ next_ask part p a r ask same = subst (λ (k : Ask). IsNextAsk part p k r.kept) s
 
 -- a step of its machine is the next event
 pub asks_by : (s : SessionSeen) (a : Asking) (r : RunsAsk s.part s.point a) (ask : Ask) → r.ask ≡ ask → (e : AskStepped) → s.cut ≡ false
-    → IsStepEvent s.part.names a.machine.rules a.machine.ask a.machine.kept s.part.budget a.machine.steps (event_seen e) → AsksNext s ask e
+    → IsStepEvent s.part.names a.machine.value.rules a.machine.value.ask a.machine.value.kept s.part.budget a.machine.value.steps (event_seen e) → AsksNext s ask e
 unfolding IsAskEvent
 asks_by s a r ask same e going step = record {
   going = going;
@@ -153,8 +153,8 @@ asks_by s a r ask same e going step = record {
 }
 
 -- the machine after the step
-pub runs_by : (s : SessionSeen) (a b : Asking) (r : RunsAsk s.part s.point a) (ask : Ask) → r.ask ≡ ask → b.machine ≡ record a.machine { steps = a.machine.steps + 1 }
-    → IsAskGoing s.part.budget b.machine b.answers → RunsOn s ask b
+pub runs_by : (s : SessionSeen) (a b : Asking) (r : RunsAsk s.part s.point a) (ask : Ask) → r.ask ≡ ask → b.machine.value ≡ record a.machine.value { steps = a.machine.value.steps + 1 }
+    → IsAskGoing s.part.budget b.machine.value b.answers → RunsOn s ask b
 runs_by s a b r ask same is asks = record {
   kept = r.kept;
   next = next_ask s.part s.point a r ask same;

@@ -59,4 +59,4 @@ end_text None steps = []
 -- an ask at its beginning: it is at its end, or its machine is started
 abbrev pub IsBegun : RuleList → Ask → List (List Node) → ℕ → Begun → Type 0
 IsBegun P ask kept budget (Ended e) = EndsAtOnce ask kept budget 0 (event_seen e) × (e.ends ≡ true)
-IsBegun P ask kept budget (Runs asking) = (asking.machine ≡ started_machine P ask kept) × IsAskGoing budget asking.machine asking.answers
+IsBegun P ask kept budget (Runs asking) = (asking.machine.value ≡ started_machine P ask kept) × IsAskGoing budget asking.machine.value asking.answers

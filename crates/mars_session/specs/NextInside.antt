@@ -32,8 +32,8 @@ pub record RunsAsk (part : SessionPart) (p : SessionPoint) (a : Asking) : Type 0
   pub ask : Ask
   pub kept : List (List Node)
   pub next : IsNextAsk part p ask kept
-  pub machine : a.machine ≡ record { rules = part.rules; ask = ask; kept = kept; steps = p.steps; broken = false }
-  pub asks : IsAskGoing part.budget a.machine a.answers
+  pub machine : a.machine.value ≡ record { rules = part.rules; ask = ask; kept = kept; steps = p.steps; broken = false }
+  pub asks : IsAskGoing part.budget a.machine.value a.answers
 
 -- the wish stands for what the next command wants
 pub record IsPending (part : SessionPart) (p : SessionPoint) (wish : Wish) : Type 0 where
@@ -61,8 +61,8 @@ pub record AsksNext (s : SessionSeen) (ask : Ask) (e : AskStepped) : Type 0 wher
 pub record RunsOn (s : SessionSeen) (ask : Ask) (a : Asking) : Type 0 where
   pub kept : List (List Node)
   pub next : IsNextAsk s.part s.point ask kept
-  pub machine : a.machine ≡ record { rules = s.part.rules; ask = ask; kept = kept; steps = s.point.steps + 1; broken = false }
-  pub asks : IsAskGoing s.part.budget a.machine a.answers
+  pub machine : a.machine.value ≡ record { rules = s.part.rules; ask = ask; kept = kept; steps = s.point.steps + 1; broken = false }
+  pub asks : IsAskGoing s.part.budget a.machine.value a.answers
 
 -- the next command wants what the wish stands for
 pub record WishesNext (s : SessionSeen) (wish : Wish) : Type 0 where

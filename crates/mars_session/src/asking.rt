@@ -86,10 +86,11 @@ fn push_end(line: &mut Vec<u8>, ending: Option<Ending>, steps: u64) -> Result<bo
     }
 }
 
-/// An ask that runs: its machine, and how many answers it gave.
+/// An ask that runs: its machine, and how many answers it gave. The machine is large, and an ask that goes on is taken out
+/// and put back at each event, so the machine stays in one place on the heap.
 #[derive(Drop)]
 pub(crate) struct Asking<'a> {
-    pub(crate) machine: Machine<'a>,
+    pub(crate) machine: Box<Machine<'a>>,
     pub(crate) answers: u64,
 }
 
@@ -102,20 +103,21 @@ pub(crate) fn step_ask<'a>(
     most: Option<u64>,
     asking: &mut Asking<'a>,
 ) -> Result<AskStepped, NoMemory>
-    requires runs { IsAskGoing budget asking.old.machine asking.old.answers }
-    requires vars { vars.now ≡ asking.old.machine.ask.vars }
-    requires most { most ≡ asking.old.machine.ask.most }
-    ensures event { IfOk result (λ e. IsStepEvent names.now asking.old.machine.rules asking.old.machine.ask asking.old.machine.kept budget asking.old.machine.steps (event_seen e)) }
-    ensures on { IfOk result (λ e. e.ends ≡ false → IsAskGoing budget asking.new.machine asking.new.answers) }
-    ensures steps { OnOk result (asking.new.machine ≡ record asking.old.machine { steps = asking.old.machine.steps + 1 }) }
+    requires runs { IsAskGoing budget asking.old.machine.value asking.old.answers }
+    requires vars { vars.now ≡ asking.old.machine.value.ask.vars }
+    requires most { most ≡ asking.old.machine.value.ask.most }
+    ensures event { IfOk result (λ e. IsStepEvent names.now asking.old.machine.value.rules asking.old.machine.value.ask asking.old.machine.value.kept budget asking.old.machine.value.steps (event_seen e)) }
+    ensures on { IfOk result (λ e. e.ends ≡ false → IsAskGoing budget asking.new.machine.value asking.new.answers) }
+    ensures steps { OnOk result (asking.new.machine.value ≡ record asking.old.machine.value { steps = asking.old.machine.value.steps + 1 }) }
 {
-    let stepped = asking.machine.step()?;
+    let machine = asking.machine.as_mut();
+    let stepped = machine.step()?;
     let mut text = Vec::new(alloc);
     push_told(&mut text, names, vars, asking.answers, &stepped)?;
     let answer = answer_of(stepped);
     asking.answers = count_answer(asking.answers, &answer)?;
-    let steps = asking.machine.steps();
-    let left = asking.machine.left();
+    let steps = machine.steps();
+    let left = machine.left();
     let ending = ending_at(most, asking.answers, left, steps, budget);
     let ends = push_end(&mut text, ending, steps)?;
     Ok(AskStepped { text, answer, ends })
@@ -159,9 +161,12 @@ pub(crate) fn begin_ask<'a>(
                 ends: true,
             }))
         }
-        None => Ok(Begun::Runs(Asking {
-            machine: Machine::start(alloc, rules, ask, kept)?,
-            answers: 0,
-        })),
+        None => {
+            let machine = Machine::start(alloc, rules, ask, kept)?;
+            Ok(Begun::Runs(Asking {
+                machine: Box::new(alloc, machine)?,
+                answers: 0,
+            }))
+        }
     }
 }

@@ -190,6 +190,8 @@ impl<'a> Session<'a> {
         ensures ok { OnOk result (MovesOn self.old self.new) }
         ensures err { OnErr result (self.new ≡ self.old) }
     {
+        // the steps are below the budget, which is a `u64`
+        let _budget = self.budget;
         self.text.push(&event.text)?;
         let earlier = self.answer.take();
         self.answer = later(earlier, event.answer);

@@ -1,5 +1,6 @@
-use Rattle.std.proofs.Common.{◌≡◌, refl, ap, sym, ◌∙◌, subst, ◌+◌, Option, Some, None}
+use Rattle.std.proofs.Common.{◌≡◌, refl, ap, sym, ◌∙◌, subst, arith, ℕ, ◌+◌, ◌<◌, Option, Some, None}
 use Rattle.std.specs.Prelude.{false}
+use Rattle.mars_machine.specs.Machines.{SeenMachine}
 use Rattle.mars_answer.specs.declared.answers.Answer.{Answer}
 use Rattle.mars_session.specs.declared.asking.Asking.{Asking}
 use Rattle.mars_session.specs.declared.session.Session.TheInside.{Inside}
@@ -11,6 +12,14 @@ use Rattle.mars_session.specs.NextInside.{AsksNext, RunsOn, RunsAsk}
 use Rattle.mars_session.specs.SessionInside.{part_in, point_in, seen_in, IsSessionKept}
 use Rattle.mars_session.proofs.Turning.{kept_on, reached_on, one_on, ask_went, runs_went}
 use Rattle.mars_session.proofs.session.Session.go_on.Goals as goal
+
+pub overflow_add-self : goal.overflow_add-self
+overflow_add-self c =
+    let p : Inside = c.self.inside in
+    let ask = c.args.ask.now in
+    let runs : RunsOn (seen_in p) ask c.args.asking = subst (λ (s : SessionSeen). RunsOn s ask c.args.asking) (sym c.self.view_is) c.requires.runs in
+    let below : p.steps + 1 < p.budget = subst (λ (n : ℕ). n < p.budget) (ap (λ (m : SeenMachine). m.steps) runs.machine) runs.asks.within in
+    omega (arith, below)
 
 pub invariant_of-self-2 : goal.invariant_of-self-2
 invariant_of-self-2 c =
