@@ -4,8 +4,8 @@
 # bench/machine is run first, and what it writes is compared with what is known of it. What is measured is its last ask: the
 # difference between the input with that ask alone, or with as many of it as make five million steps, and the input with
 # none. Processor seconds are the fewest of five runs; bytes are the process's largest size; instructions are counted by
-# valgrind, and don't depend on what else the machine does. Then it writes, for each input, where the instructions go, by
-# the crate whose function they are part of. Takes about ten minutes. It needs GNU time and valgrind.
+# valgrind, and don't depend on what else the machine does; below each input are the functions that have most of them, a
+# step, without what these call. Takes about ten minutes. It needs GNU time and valgrind.
 set -eu
 export LC_ALL=C
 cd "$(dirname "$0")/.."
@@ -82,10 +82,16 @@ seconds() {
 }
 kilobytes() { /usr/bin/time -f '%M' "$program" "${words[@]}" < "$1" 2>&1 > /dev/null; }
 
-# the instructions of a run, and which functions they are part of
+# the instructions of a run; which functions they are part of is kept beside the input
 instructions() {
     valgrind --tool=callgrind --callgrind-out-file="$1.callgrind" "$program" "${words[@]}" < "$1" 2>&1 > /dev/null |
         awk '/Collected/ { print $NF }'
+}
+
+# the functions that have most instructions of a run with so many steps
+dearest() {
+    callgrind_annotate "$1.callgrind" | sed -nE 's/^ *([0-9,]+) (\([^)]*\) +)?[^: ]*:(.*) \[[^]]*\]$/\1 \3/p' |
+        awk -v steps="$2" 'NR <= 8 { gsub(",", "", $1); printf "    %8.0f  %s\n", $1 / steps, $2 }'
 }
 
 printf '%-13s %9s %14s %8s %16s %13s\n' input steps 'instructions' 'a step' 'steps a second' 'bytes a step'
@@ -97,10 +103,10 @@ for name in reverse count list permutations queens zebra cycle; do
     [ "$many" -le 250 ] || many=250
     for times in 0 1 "$many"; do asking "$name" "$times"; done
     counted=$(($(instructions "$inputs/asks1") - $(instructions "$inputs/asks0")))
-    mv "$inputs/asks1.callgrind" "$inputs/$name.callgrind"
     size=$(($(kilobytes "$inputs/asks1") - $(kilobytes "$inputs/asks0")))
     awk -v name="$name" -v steps="$steps" -v counted="$counted" -v times="$many" -v size="$size" \
         -v took="$(seconds "$inputs/asks$many")" -v none="$(seconds "$inputs/asks0")" 'BEGIN {
-            printf "%-13s %9d %14d %8.0f %16.0f %13.0f\n", name, steps, counted, counted / steps, steps * times / (took - none), size * 1024 / steps
+            printf "%-13s %9d %14.0f %8.0f %16.0f %13.0f\n", name, steps, counted, counted / steps, steps * times / (took - none), size * 1024 / steps
         }'
+    dearest "$inputs/asks1" "$steps"
 done
