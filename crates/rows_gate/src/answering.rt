@@ -1,5 +1,6 @@
 //! The answer of a row, by its first word.
 use crate::copies::answer_copies;
+use crate::full::answer_full;
 use crate::jobs::answer_jobs;
 use crate::sessions::{answer_holding, answer_meeting, answer_sessions};
 use crate::turns::answer_turns;
@@ -22,6 +23,7 @@ pub(crate) fn answer<R: Threads + Wait + Sync>(
         "meeting" => answer_meeting(rt, alloc, rest, into),
         "holding" => answer_holding(rt, alloc, rest, into),
         "copies" => answer_copies(rt, alloc, rest, into),
+        "full" => answer_full(alloc, rest, into),
         "turns" => answer_turns(rt, alloc, rest, into),
         _ => Err(Stop::NoRow),
     }

@@ -5,6 +5,7 @@
 
 mod answering;
 mod copies;
+mod full;
 mod handles;
 mod inputs;
 mod jobs;
