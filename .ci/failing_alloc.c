@@ -1,11 +1,12 @@
-/* Loaded before the C library: counts the calls of malloc and realloc, and lets one of them fail, that of the number
-   FAILING_ALLOCATION, from 1 on. At the end the count is written to standard error. */
+/* Loaded before the C library: counts the calls of malloc and realloc, in all threads, and lets one of them fail, that of
+   the number FAILING_ALLOCATION, from 1 on. At the end, which is by _exit, the count is written to standard error. */
 #define _GNU_SOURCE
 #include <dlfcn.h>
 #include <stdio.h>
 #include <stdlib.h>
 
-static unsigned long calls, failing;
+static _Atomic unsigned long calls;
+static unsigned long failing;
 
 __attribute__((constructor)) static void begin(void) {
     const char *number = getenv("FAILING_ALLOCATION");
@@ -13,7 +14,12 @@ __attribute__((constructor)) static void begin(void) {
     failing = number ? strtoul(number, NULL, 10) : 0;
 }
 
-__attribute__((destructor)) static void tell(void) { fprintf(stderr, "%lu\n", calls); }
+void _exit(int status) {
+    void (*next)(int) = (void (*)(int))dlsym(RTLD_NEXT, "_exit");
+    fprintf(stderr, "%lu\n", calls);
+    next(status);
+    __builtin_unreachable();
+}
 
 void *malloc(size_t size) {
     static void *(*next)(size_t);

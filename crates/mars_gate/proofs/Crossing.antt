@@ -73,7 +73,7 @@ machine_send : (κ : NamedLft) → IsSend (Machine.the_row κ)
 machine_send κ = search (view_send, declared_send, as_row_send, plain_send, shr_send, crosses, global.the_send, option.the_send, ask_send, base_sync, tree.the_send, memory.the_send, points.the_send, registers.the_send, node_id.the_send, goal_list.the_send, tt) depth 40
 
 asking_send : (κ : NamedLft) → IsSend (Asking.the_row κ)
-asking_send κ = search (declared_send, as_row_send, plain_send, machine_send, tt) depth 40
+asking_send κ = search (declared_send, as_row_send, plain_send, crosses, machine_send, tt) depth 40
 
 pub session_send : (κ : NamedLft) → IsSend (Session.the_row κ)
 session_send κ = search (view_send, declared_send, as_row_send, plain_send, shr_send, shr_slice_send, crosses, global.the_send, option.the_send, name_id.the_send, command_sync, names.the_sync, base_sync, answer.the_send, named.the_send, latest.the_send, asking_send, wish.the_send, entry.the_send, text.the_send, tt) depth 40

@@ -1,4 +1,5 @@
 pub mod Due
+pub mod Told
 pub mod Complete
 pub mod OneOrder
 pub mod Texts

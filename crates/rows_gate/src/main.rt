@@ -1,71 +1,65 @@
-//! Shows jobs in threads over one book, with the gates at which they meet, are held or take their time. It writes a line for
-//! each run; the lines are the same however the threads ran.
+//! Answers rows on jobs and on sessions in threads over one book, under gates at which they meet, are held or take their
+//! time. Each line of standard input is written again, and after it `-->` and its answer where it is a row: no comment and
+//! not blank. The answers are the same however the threads ran.
 #![tactic(auto)]
 
+mod answering;
+mod copies;
+mod handles;
+mod inputs;
+mod jobs;
 mod keeper;
 mod runs;
+mod sessions;
 mod trees;
+mod turns;
 
-use crate::runs::{Shown, held, met, none, one_cut, uneven};
-use mars_base::NoMemory;
-use std::alloc::Global;
+use crate::answering::answer;
+use rows::Stop;
+use std::alloc::{AllocError, Global};
 use std::io;
+use std::io::Write;
+use std::sync::Wait;
+use std::thread::Threads;
 
 fn main(rt: HostRuntime) -> io::Result<()> {
-    let alloc = rt.alloc();
-    if let Some(shown) = met(&rt, alloc).map_err(no_memory)? {
-        let in_time = shown.in_time;
-        println!(rt;
-            "two that meet: in time {in_time}, {}",
-            closing(alloc, shown)?
-        )?;
-    }
-    if let Some(shown) = held(&rt, alloc).map_err(no_memory)? {
-        let Shown {
-            in_time,
-            first,
-            second,
-            ..
-        } = shown;
-        println!(rt;
-            "one that is held: in time {in_time}, told {first:?} and {second:?}, {}",
-            closing(alloc, shown)?
-        )?;
-    }
-    for seed in 0..4_u64 {
-        if let Some(shown) = uneven(&rt, alloc, seed).map_err(no_memory)? {
-            let one_handle = shown.one_handle;
-            println!(rt;
-                "32 with seed {seed}: one handle {one_handle}, {}",
-                closing(alloc, shown)?
-            )?;
-        }
-    }
-    if let Some(shown) = one_cut(&rt, alloc).map_err(no_memory)? {
-        let cut = shown.cut;
-        println!(rt;
-            "3 of which one loses a reply: cut {cut}, {}",
-            closing(alloc, shown)?
-        )?;
-    }
-    if let Some(shown) = none(&rt, alloc).map_err(no_memory)? {
-        println!(rt; "none: {}", closing(alloc, shown)?)?;
+    for line in rt.lines(rt.alloc()) {
+        let line = line?;
+        let text = answered(&rt, rt.alloc(), line.as_str())?;
+        io::writer(&rt).write_all(&text)?;
     }
     Ok(())
 }
 
-/// The history's length and what the closing calls were told.
-fn closing(alloc: Global, shown: Shown) -> io::Result<String> {
-    let Shown {
-        entries,
-        swept,
-        rows,
-        pins,
-        ..
-    } = shown;
-    Ok(format!(in alloc; "entries {entries}, swept {swept}, rows {rows}, pins {pins}")?)
+/// A line, and after it its answer where it is a row.
+fn answered<R: Threads + Wait + Sync>(
+    rt: &R,
+    alloc: Global,
+    line: &str,
+) -> Result<Vec<u8>, AllocError> {
+    let mut text = Vec::from_slice(alloc, line.as_bytes())?;
+    if !line.is_empty() && !line.starts_with("--") {
+        text.extend_from_slice(b"  -->  ")?;
+        let before = text.len();
+        let outcome = answer(rt, alloc, line, &mut text);
+        close_answer(outcome, before, &mut text)?;
+    }
+    text.extend_from_slice(b"\n")?;
+    Ok(text)
 }
 
-fn no_memory(_error: NoMemory) -> io::Error {
-    io::Error::from(io::ErrorKind::OutOfMemory)
+/// Writes why an answer stopped, in place of what it wrote.
+fn close_answer(
+    outcome: Result<(), Stop>,
+    before: usize,
+    text: &mut Vec<u8>,
+) -> Result<(), AllocError> {
+    match outcome {
+        Ok(()) => Ok(()),
+        Err(Stop::NoMemory) => Err(AllocError),
+        Err(stop) => {
+            text.truncate(before);
+            text.extend_from_slice(stop.text().as_bytes())
+        }
+    }
 }

@@ -2,8 +2,8 @@
 use std::sync::atomic::{AtomicBool, Ordering};
 use std::thread;
 
-/// How often a wait looks at a flag before it goes on.
-const MOST_LOOKS: u64 = 10_000_000;
+/// How often a wait looks at a flag before it goes on, where nothing else is said.
+pub(crate) const MOST_LOOKS: u64 = 10_000_000;
 
 /// One flag for session 0 and one for session 1. Once raised, a flag stays up.
 #[derive(Drop)]
@@ -35,10 +35,11 @@ impl Flags {
         self.zero.load(Ordering::SeqCst) && self.one.load(Ordering::SeqCst)
     }
 
-    /// Waits until the flag of session 0 is up, or of session 1 for any other number. False where that was too late.
-    pub(crate) fn wait(&self, who: u32) -> bool {
+    /// Waits until the flag of session 0 is up, or of session 1 for any other number, for so many looks at the most. False
+    /// where that was too late.
+    pub(crate) fn wait(&self, who: u32, looks: u64) -> bool {
         let flag = if who == 0 { &self.zero } else { &self.one };
-        for _ in 0..MOST_LOOKS {
+        for _ in 0..looks {
             if flag.load(Ordering::SeqCst) {
                 return true;
             }
@@ -54,21 +55,24 @@ pub(crate) struct Notes {
     pub(crate) before: Flags,
     pub(crate) after: Flags,
     late: AtomicBool,
+    /// How often a wait looks at a flag.
+    looks: u64,
 }
 
 impl Notes {
-    /// Nothing has come yet.
-    pub(crate) fn new() -> Notes {
+    /// Nothing has come yet. A wait looks at a flag so often.
+    pub(crate) fn new(looks: u64) -> Notes {
         Notes {
             before: Flags::new(),
             after: Flags::new(),
             late: AtomicBool::new(false),
+            looks,
         }
     }
 
     /// Waits for the flag of a session, and notes where that was too late.
     pub(crate) fn wait(&self, flags: &Flags, who: u32) {
-        if !flags.wait(who) {
+        if !flags.wait(who, self.looks) {
             self.late.store(true, Ordering::SeqCst);
         }
     }

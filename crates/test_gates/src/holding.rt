@@ -1,5 +1,5 @@
 //! A gate that holds one session until another has called.
-use crate::flags::Notes;
+use crate::flags::{MOST_LOOKS, Notes};
 use mars_io::Gate;
 use std::sync::Wait;
 
@@ -13,8 +13,13 @@ pub struct HoldingGate {
 impl HoldingGate {
     /// A gate to which nobody has come.
     pub fn new() -> HoldingGate {
+        HoldingGate::with_looks(MOST_LOOKS)
+    }
+
+    /// A gate to which nobody has come, at which a wait looks at a flag so often before it is too late.
+    pub fn with_looks(looks: u64) -> HoldingGate {
         HoldingGate {
-            notes: Notes::new(),
+            notes: Notes::new(looks),
         }
     }
 

@@ -1,5 +1,5 @@
 //! A gate at which two sessions meet.
-use crate::flags::Notes;
+use crate::flags::{MOST_LOOKS, Notes};
 use mars_io::Gate;
 use std::sync::Wait;
 
@@ -13,8 +13,13 @@ pub struct MeetingGate {
 impl MeetingGate {
     /// A gate to which nobody has come.
     pub fn new() -> MeetingGate {
+        MeetingGate::with_looks(MOST_LOOKS)
+    }
+
+    /// A gate to which nobody has come, at which a wait looks at a flag so often before it is too late.
+    pub fn with_looks(looks: u64) -> MeetingGate {
         MeetingGate {
-            notes: Notes::new(),
+            notes: Notes::new(looks),
         }
     }
 

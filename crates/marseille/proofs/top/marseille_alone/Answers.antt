@@ -1,54 +1,59 @@
-use Rattle.std.proofs.Common.{ℕ, List, sym, subst, ◌∙◌, refl, codes}
+use Rattle.std.proofs.Common.{ℕ, List, Option, sym, subst, ◌∙◌, refl, codes}
 use Rattle.mars_script.specs.Words.{texts_of}
+use Rattle.mars_table.specs.declared.entry.Entry.{Entry}
 use Rattle.marseille.specs.declared.status.Status.TheVariants as status
-use Rattle.marseille.specs.Ran.{NamesSessions}
-use Rattle.marseille.specs.Words.{AreRunAs, AreTakenAs}
+use Rattle.marseille.specs.Ran.{NamesSessions, IsRunAlone}
+use Rattle.marseille.specs.Words.{AreTakenAs}
+use Rattle.marseille.specs.Top.{IsDueAs}
 use Rattle.marseille.specs.Top.RefusesWords.{refused, unbuilt}
-use Rattle.marseille.proofs.Due.{due_of}
+use Rattle.marseille.proofs.Told.{gets_all, gets_part}
+use Rattle.marseille.proofs.Complete.{complete, without_fault}
 use Rattle.marseille.proofs.OneOrder.{one_order}
 use Rattle.marseille.proofs.top.marseille_alone.Goals as goal
 
-pub returns-in-Ok-Run-clause-words : goal.returns-in-Ok-Run-clause-words
-returns-in-Ok-Run-clause-words g c is =
+pub returns-in-Ok-clause-words : goal.returns-in-Ok-clause-words
+returns-in-Ok-clause-words g c is =
     let texts = texts_of c.args.words.now in
     let options = c.in-Ok-Run.options in
-    let taken = subst (AreTakenAs texts) c.in-Ok-Run.field-0-is c.in-Ok-Run.ensures in
-    let run = subst (λ (order : List ℕ). AreRunAs texts options order) (sym c.as_slice.ensures) taken in
-    let gets = c.run_words.ensures.words is in
-    record {
-      output = gets.output;
-      is = due_of texts options c.as_slice.result.now (g.S.Source.left c.args.source.now) (g.S.Source.left c.run_words.new.source) c.run_words.result.history.items gets.output status.Words run gets.is;
-      all = gets.all;
-    }
+    let order = c.in-Ok-Run.order in
+    let old = g.S.Source.left c.args.source.now in
+    let new = g.S.Source.left c.due_alone.new.source in
+    let due = c.in-Ok.field-0 in
+    let run = subst (AreTakenAs texts) c.in-Ok-Run.field-0-is c.in-Ok-Run.ensures in
+    let written = subst (λ (l : List ℕ). IsDueAs IsRunAlone options order old new due.history.items l due.status) (sym c.deref.ensures.value) c.in-Ok.ensures.due in
+    let kept = subst (λ (l : List Entry). IsDueAs IsRunAlone options order old new l c.deref.result.now due.status) (sym c.say.ensures.history) written in
+    gets_all IsRunAlone texts options order run old new (g.K.Sink.got c.args.sink.now) (g.K.Sink.got c.say.new.sink) c.say.result.history.items c.deref.result.now due.status kept c.say.result.status c.say.ensures.all status.Words (λ w. cc w) is
 
-pub returns-in-Ok-Run-clause-write : goal.returns-in-Ok-Run-clause-write
-returns-in-Ok-Run-clause-write g c is =
+pub returns-in-Ok-clause-write : goal.returns-in-Ok-clause-write
+returns-in-Ok-clause-write g c is =
     let texts = texts_of c.args.words.now in
     let options = c.in-Ok-Run.options in
-    let taken = subst (AreTakenAs texts) c.in-Ok-Run.field-0-is c.in-Ok-Run.ensures in
-    let run = subst (λ (order : List ℕ). AreRunAs texts options order) (sym c.as_slice.ensures) taken in
-    let fails = c.run_words.ensures.write is in
-    let part = fails.1 in (
-      fails.0,
-      record {
-        output = part.output;
-        is = (part.is.0, due_of texts options c.as_slice.result.now (g.S.Source.left c.args.source.now) (g.S.Source.left c.run_words.new.source) c.run_words.result.history.items part.output part.is.0 run part.is.1);
-        part = part.part;
-      },
-    )
+    let order = c.in-Ok-Run.order in
+    let old = g.S.Source.left c.args.source.now in
+    let new = g.S.Source.left c.due_alone.new.source in
+    let due = c.in-Ok.field-0 in
+    let run = subst (AreTakenAs texts) c.in-Ok-Run.field-0-is c.in-Ok-Run.ensures in
+    let written = subst (λ (l : List ℕ). IsDueAs IsRunAlone options order old new due.history.items l due.status) (sym c.deref.ensures.value) c.in-Ok.ensures.due in
+    let kept = subst (λ (l : List Entry). IsDueAs IsRunAlone options order old new l c.deref.result.now due.status) (sym c.say.ensures.history) written in
+    let fails = c.say.ensures.fault is in
+    (fails.0, gets_part IsRunAlone texts options order run old new (g.K.Sink.got c.args.sink.now) (g.K.Sink.got c.say.new.sink) c.say.result.history.items c.deref.result.now due.status kept fails.1)
 
-pub returns-in-Ok-Run-clause-complete : goal.returns-in-Ok-Run-clause-complete
-returns-in-Ok-Run-clause-complete g c options order bytes input run holds says named no_read no_write =
+pub returns-in-Ok-clause-complete : goal.returns-in-Ok-clause-complete
+returns-in-Ok-clause-complete g c options order bytes input run holds says named no_read no_write =
     let texts = texts_of c.args.words.now in
     let taken = subst (AreTakenAs texts) c.in-Ok-Run.field-0-is c.in-Ok-Run.ensures in
     let same = one_order texts options c.in-Ok-Run.options order c.in-Ok-Run.order run taken in
-    c.run_words.ensures.complete bytes input holds says (subst (λ (o : List ℕ). NamesSessions o input) (same ∙ sym c.as_slice.ensures) named) no_read no_write
+    let due = c.in-Ok.field-0 in
+    without_fault c.say.result.status due.status
+    (complete c.one_input.ensures.input c.one_input.ensures.either bytes input says IsRunAlone c.in-Ok-Run.options c.in-Ok-Run.order (g.S.Source.left c.args.source.now) (g.S.Source.left c.due_alone.new.source) due.history.items due.output.items due.status holds (subst (λ (o : Option (List ℕ)). NamesSessions o input) same named) c.in-Ok.ensures.due)
+    c.say.ensures.one
+    (λ fault. no_write (c.say.ensures.fault fault).0)
 
 pub returns-in-Ok-Unbuilt-clause-write : goal.returns-in-Ok-Unbuilt-clause-write
 returns-in-Ok-Unbuilt-clause-write g c is =
-    let fails = c.say.ensures.fault is in
+    let fails = c.say-in-Ok-Unbuilt.ensures.fault is in
     let taken = subst (AreTakenAs (texts_of c.args.words.now)) c.in-Ok-Unbuilt.field-0-is c.in-Ok-Unbuilt.ensures in
-    (fails.0, record { output = codes "words unbuilt\n"; is = (status.Words, unbuilt taken refl (c.say.ensures.history ∙ c.new.ensures.items)); part = fails.1 })
+    (fails.0, record { output = codes "words unbuilt\n"; is = (status.Words, unbuilt taken refl (c.say-in-Ok-Unbuilt.ensures.history ∙ c.new.ensures.items)); part = fails.1 })
 
 pub returns-in-Ok-Refused-clause-write : goal.returns-in-Ok-Refused-clause-write
 returns-in-Ok-Refused-clause-write g c is =
