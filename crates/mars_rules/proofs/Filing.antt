@@ -91,7 +91,7 @@ places_rise at [] key = λ i j n m h e f. absurd (none-some n e)
 places_rise at (own ∷ keys) key =
     rise_step at (places_of_key (at + 1) keys key) (λ j m f. let p = (place_of (at + 1) keys key j m f).place_is in omega arith) (places_rise (at + 1) keys key) (same_head_key key own)
 
-at_place : (keys : List HeadKey) (key : HeadKey) (place : ℕ) → slice_get keys place ≡ Some key → (k : ℕ) × (slice_get (places_of_key 0 keys key) k ≡ Some place)
+pub at_place : (keys : List HeadKey) (key : HeadKey) (place : ℕ) → slice_get keys place ≡ Some key → (k : ℕ) × (slice_get (places_of_key 0 keys key) k ≡ Some place)
 at_place keys key place e = let k = has_place 0 keys key place e in (k.0, k.1 ∙ ap (λ n. Some n) (omega arith))
 
 -- the first of rising places is the first place of the key

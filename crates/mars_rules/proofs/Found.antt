@@ -10,7 +10,8 @@ use Rattle.mars_rules.specs.declared.keys.HeadKey.{HeadKey}
 use Rattle.mars_rules.specs.PairedLists.{AllPaired}
 use Rattle.mars_rules.specs.TermTrees.{label_of_term, arguments_of}
 use Rattle.mars_rules.specs.Candidates.{FitsGoal, FitsFirst, AllowsLabel, label_of_first, IsLeastRule, IsFirstRule}
-use Rattle.mars_rules.specs.PlacesInside.{IsFirstOfKey}
+use Rattle.mars_rules.specs.PlacesInside.{IsFirstOfKey, IsAllowedAt, IsFirstAllowed, IsRising, places_of_key}
+use Rattle.mars_rules.proofs.Filing.{at_place, place_of, places_rise}
 use Rattle.mars_rules.specs.BaseInside.{IsHeadKey, IsFirstKey, earlier_of}
 
 -- the item of the other list at a place
@@ -118,6 +119,62 @@ by-first label first rules keys each from a b f g =
         → HasFirst label None rule ⊎ HasFirst label (Some first) rule
     split rule is None e allows = inl (is, e)
     split rule is (Some own) e allows = let same : own ≡ first = subst (AllowsLabel first) e allows in inr (is, e ∙ ap (λ (x : Label). Some x) same)
+
+-- a rule with a head's label is among the places of that label
+place-in : (label : Label) (rules : List Rule) (heads : List HeadKey) → AllPaired IsHeadKey rules heads → (place : ℕ) (rule : Rule) → slice_get rules place ≡ Some rule
+    → label_of_term rule.head ≡ Some label → (k : ℕ) × (slice_get (places_of_key 0 heads (record { label = label; first = None })) k ≡ Some place)
+place-in label rules heads each place rule at is =
+    let h = item-at IsHeadKey rules heads each place rule at in
+    let same : h.0 ≡ record { label = label; first = None } = same-key h.0 (record { label = label; first = None }) (same_Some h.0.label label (sym h.2.label ∙ is)) h.2.first in
+    at_place heads (record { label = label; first = None }) place (h.1 ∙ ap (λ (x : HeadKey). Some x) same)
+
+-- the key of a rule allows what its head's first argument allows
+allowed-at : (first : Label) (rules : List Rule) (keys : List HeadKey) → AllPaired IsFirstKey rules keys → (place : ℕ) (rule : Rule) → slice_get rules place ≡ Some rule
+    → AllowsLabel first (label_of_first (arguments_of rule.head)) → IsAllowedAt keys first place
+allowed-at first rules keys each place rule at allows =
+    let h = item-at IsFirstKey rules keys each place rule at in (h.0, h.1, subst (AllowsLabel first) (sym h.2.first) allows)
+
+-- and no more
+head-allows : (first : Label) (rules : List Rule) (keys : List HeadKey) → AllPaired IsFirstKey rules keys → (place : ℕ) (rule : Rule) → slice_get rules place ≡ Some rule
+    → IsAllowedAt keys first place → AllowsLabel first (label_of_first (arguments_of rule.head))
+head-allows first rules keys each place rule at (key, there, allows) =
+    let h = item-at IsFirstKey rules keys each place rule at in
+    let same : key ≡ h.0 = same_Some key h.0 (sym there ∙ h.1) in
+    subst (AllowsLabel first) h.2.first (subst (λ (k : HeadKey). AllowsLabel first k.first) same allows)
+
+-- the lesser of rising numbers is the earlier one
+index-before : (places : List ℕ) → IsRising places → (i j n m : ℕ) → slice_get places i ≡ Some n → slice_get places j ≡ Some m → n < m → i < j
+index-before places rise i j n m e f l = go (cases_lt i j)
+  where
+    later : (j < i) ⊎ (i ≤ j) → j ≤ i → i < j
+    later (inl h) w = let r = rise j i m n h f e in absurd (omega arith)
+    later (inr h) w = let same : i ≡ j = omega arith in let v = same_Some n m (sym e ∙ ap (slice_get places) same ∙ f) in absurd (omega arith)
+
+    go : (i < j) ⊎ (j ≤ i) → i < j
+    go (inl h) = h
+    go (inr h) = later (cases_lt j i) h
+
+-- by the label of the head, and then by each rule's first argument
+pub among-first : (label first : Label) (rules : List Rule) (heads keys : List HeadKey) → AllPaired IsHeadKey rules heads → AllPaired IsFirstKey rules keys → (from : ℕ) (found : Option ℕ)
+    → IsFirstAllowed keys (places_of_key 0 heads (record { label = label; first = None })) first from found → IsFirstRule (FitsFirst (Some label) (Some first)) rules from found
+among-first label first rules heads keys have each from None none = λ place rule late at fits.
+    let k = place-in label rules heads have place rule at fits.0 in
+    none k.0 place k.1 late (allowed-at first rules keys each place rule at fits.1)
+among-first label first rules heads keys have each from (Some found) (at, there, late, allowed, least) =
+    let key : HeadKey = record { label = label; first = None } in
+    let p = place_of 0 heads key at found there in
+    let same : found ≡ p.distance = let q = p.place_is in omega arith in
+    let r = item-back IsHeadKey rules heads have found key (ap (slice_get heads) same ∙ p.has) in
+    record {
+      rule = r.0;
+      at = r.1;
+      fits = (r.2.label, head-allows first rules keys each found r.0 r.1 allowed);
+      late = late;
+      least = λ place other l before e fits.
+          let k = place-in label rules heads have place other e fits.0 in
+          let earlier = index-before (places_of_key 0 heads key) (places_rise 0 heads key) k.0 at place found k.1 there before in
+          least k.0 place earlier k.1 l (allowed-at first rules keys each place other e fits.1);
+    }
 
 -- any rule from a place on
 pub any-rule : (rules : List Rule) (from : ℕ) → from < length rules → IsFirstRule (FitsGoal None) rules from (Some from)

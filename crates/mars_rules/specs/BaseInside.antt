@@ -21,18 +21,20 @@ pub record IsFirstKey (rule : Rule) (key : HeadKey) : Type 0 where
   pub label : label_of_term rule.head ≡ Some key.label
   pub first : key.first ≡ label_of_first (arguments_of rule.head)
 
--- the rules' places are filed by such keys
-pub record AreFiledBy (IsKey : Rule → HeadKey → Type 0) (rules : List Rule) (entries : List (HeadKey × Vec ℕ)) : Type 0 where
+-- the rules' places are filed by the labels of their heads
+pub record AreFiledHeads (rules : List Rule) (entries : List (HeadKey × Vec ℕ)) : Type 0 where
   pub keys : List HeadKey
-  pub each : AllPaired IsKey rules keys
+  pub each : AllPaired IsHeadKey rules keys
   pub filed : AreFiledPlaces keys entries
 
--- the rules are well formed, each is laid out as nodes, and their places are filed by both kinds of keys
-pub record IsBase (rules : List Rule) (flat : List FlatRule) (heads firsts : List (HeadKey × Vec ℕ)) : Type 0 where
+-- the rules are well formed, each is laid out as nodes and has its key with the first argument's label, and their places
+-- are filed by both kinds of keys
+pub record IsBase (rules : List Rule) (flat : List FlatRule) (keys : List HeadKey) (heads firsts : List (HeadKey × Vec ℕ)) : Type 0 where
   pub rules_are : All IsRule rules
   pub flat_are : AllPaired IsFlatRule rules flat
-  pub heads_are : AreFiledBy IsHeadKey rules heads
-  pub firsts_are : AreFiledBy IsFirstKey rules firsts
+  pub keys_are : AllPaired IsFirstKey rules keys
+  pub heads_are : AreFiledHeads rules heads
+  pub firsts_are : AreFiledPlaces keys firsts
 
 -- the lesser of two places, either of which may be missing
 abbrev pub earlier_of : Option ℕ → Option ℕ → Option ℕ

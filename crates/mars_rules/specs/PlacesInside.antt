@@ -2,7 +2,9 @@
 use Rattle.std.specs.Prelude.{◌≡◌, ◌≢◌, ℕ, ◌<◌, ◌≤◌, ◌+◌, Bool, if◌then◌else◌, List, [], ◌∷◌, ◌++◌, slice_get, Option, Some, None, MatchOption}
 use Rattle.std.specs.Global.{Vec}
 use Rattle.std.specs.Map.{lookup}
+use Rattle.mars_tree.specs.declared.label.Label.{Label}
 use Rattle.mars_rules.specs.declared.keys.HeadKey.{HeadKey}
+use Rattle.mars_rules.specs.Candidates.{AllowsLabel}
 use Rattle.mars_rules.specs.contracts.keys.HeadKeyPartialEq.TheImpl as key_eq
 
 -- whether two keys are equal
@@ -47,3 +49,13 @@ abbrev pub IsFirstFrom : List ℕ → ℕ → Option ℕ → Type 0
 IsFirstFrom numbers from found = MatchOption found
     ((k n : ℕ) → slice_get numbers k ≡ Some n → n < from)
     (λ found. (at : ℕ) × (slice_get numbers at ≡ Some found) × (from ≤ found) × ((k n : ℕ) → slice_get numbers k ≡ Some n → n < found → n < from))
+
+-- the key at a place has this label of a first argument, or none
+abbrev pub IsAllowedAt : List HeadKey → Label → ℕ → Type 0
+IsAllowedAt keys argument place = (key : HeadKey) × (slice_get keys place ≡ Some key) × AllowsLabel argument key.first
+
+-- the first of some places, from a number on, at which such a key is
+abbrev pub IsFirstAllowed : List HeadKey → List ℕ → Label → ℕ → Option ℕ → Type 0
+IsFirstAllowed keys places argument from found = MatchOption found
+    ((k place : ℕ) → slice_get places k ≡ Some place → from ≤ place → IsAllowedAt keys argument place → ⊥)
+    (λ found. (at : ℕ) × (slice_get places at ≡ Some found) × (from ≤ found) × IsAllowedAt keys argument found × ((k place : ℕ) → k < at → slice_get places k ≡ Some place → from ≤ place → IsAllowedAt keys argument place → ⊥))

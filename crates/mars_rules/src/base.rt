@@ -14,9 +14,10 @@ ghost use Rattle.mars_rules.specs.BaseEquality.{same_base};
 use crate::copying::copy_rule;
 use crate::flat::FlatRule;
 use crate::goals::Instance;
+use crate::heads::Heads;
 use crate::keys::{HeadKey, first_keys, head_keys};
 use crate::laying::lay_rule;
-use crate::places::{Filed, file_places, first_place};
+use crate::places::{Filed, file_places, first_allowed, first_from, first_place};
 use mars_base::NoMemory;
 use mars_store::Store;
 use mars_term::{Goal, Goals, Rule, Version};
@@ -24,6 +25,9 @@ use mars_tree::Label;
 use sqlite_items::Items;
 use std::alloc::Global;
 use std::marker::Model;
+
+/// Of how many rules with one label of the head each is looked at. More are looked up by the first argument, too.
+const FEW: usize = 8;
 
 /// Rules in order, with a version. Each is kept as nodes, too, and its place is filed by the labels of its head and of
 /// the head's first argument.
@@ -33,7 +37,8 @@ pub struct RuleBase {
     rules: Vec<Rule>,
     version: Version,
     flat: Vec<FlatRule>,
-    heads: Filed,
+    heads: Heads,
+    keys: Vec<HeadKey>,
     firsts: Filed,
 }
 
@@ -50,7 +55,7 @@ impl Model for RuleBase {
 
     ghost view = { λ base. record { rules = base.rules.items; version = base.version } };
 
-    ghost invariant = { λ base. IsBase base.rules.items base.flat.items base.heads.entries base.firsts.entries };
+    ghost invariant = { λ base. IsBase base.rules.items base.flat.items base.keys.items base.heads base.firsts.entries };
 }
 
 impl RuleBase {
@@ -85,14 +90,16 @@ impl RuleBase {
         ensures { IfOk result (λ base. base ≡ record { rules = rules.items; version = version }) }
     {
         let flat = lay_rules(alloc, &rules)?;
-        let heads = file_places(alloc, &head_keys(alloc, &rules)?)?;
-        let firsts = file_places(alloc, &first_keys(alloc, &rules)?)?;
+        let heads = Heads::file(alloc, &head_keys(alloc, &rules)?)?;
+        let keys = first_keys(alloc, &rules)?;
+        let firsts = file_places(alloc, &keys)?;
         Ok(RuleBase {
             alloc,
             rules,
             version,
             flat,
             heads,
+            keys,
             firsts,
         })
     }
@@ -111,14 +118,15 @@ impl RuleBase {
         ensures { IsFirstRule (FitsGoal goal) self.now.rules from result }
     {
         match goal {
-            Some(label) => first_place(&self.heads, &HeadKey { label, first: None }, from),
+            Some(label) => first_from(self.heads.places(label), from),
             None => any_from(&self.rules, from),
         }
     }
 
     /// The least of the rules that `candidate` may give whose head's first argument is a variable or has the label of the
     /// goal's first argument; `None` exactly where there is none. A goal without a label, or whose first argument has
-    /// none, is that of `candidate`. It looks at the places of those labels alone, by halves. Takes no memory.
+    /// none, is that of `candidate`. It looks at each of up to 8 rules with the goal's label, and of more at those that fit
+    /// alone, by halves. Takes no memory.
     pub fn candidate_by(
         &self,
         goal: Option<Label>,
@@ -138,6 +146,18 @@ impl RuleBase {
 
     /// The least rule from a place on with these labels of the head and of its first argument, or with a variable there.
     fn candidate_of(&self, label: Label, argument: Label, from: usize) -> Option<usize>
+        ensures { IsFirstRule (FitsFirst (Some label) (Some argument)) self.now.rules from result }
+    {
+        let places = self.heads.places(label);
+        if places.len() <= FEW {
+            first_allowed(&self.keys, places, argument, from)
+        } else {
+            self.candidate_of_many(label, argument, from)
+        }
+    }
+
+    /// The same, by halves among the rules that fit.
+    fn candidate_of_many(&self, label: Label, argument: Label, from: usize) -> Option<usize>
         ensures { IsFirstRule (FitsFirst (Some label) (Some argument)) self.now.rules from result }
     {
         let open = HeadKey { label, first: None };

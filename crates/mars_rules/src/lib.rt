@@ -5,6 +5,7 @@ mod base;
 mod copying;
 mod flat;
 mod goals;
+mod heads;
 mod keys;
 mod laws;
 mod laying;

@@ -1,11 +1,13 @@
 //! Places filed by key: each key leads to its places, in order.
-ghost use Rattle.std.specs.Prelude.{IfOk, OnOk, List};
+ghost use Rattle.std.specs.Prelude.{◌↔◌, IsTrue, IfOk, OnOk, List};
 ghost use Rattle.mars_rules.specs.declared.keys.HeadKey.{HeadKey};
-ghost use Rattle.mars_rules.specs.PlacesInside.{AreFiledPlaces, IsPlaceAdded, IsFirstOfKey, IsFirstFrom, IsRising};
+ghost use Rattle.mars_rules.specs.Candidates.{AllowsLabel};
+ghost use Rattle.mars_rules.specs.PlacesInside.{AreFiledPlaces, IsPlaceAdded, IsFirstOfKey, IsFirstFrom, IsRising, IsAllowedAt, IsFirstAllowed};
 
 use crate::keys::HeadKey;
 use indexmap::IndexMap;
 use mars_base::NoMemory;
+use mars_tree::Label;
 use std::alloc::Global;
 
 /// The places of each key, in order.
@@ -46,7 +48,7 @@ pub(crate) fn first_place(filed: &Filed, key: &HeadKey, from: usize) -> Option<u
 }
 
 /// The first of rising places from a place on.
-fn first_from(places: &[usize], from: usize) -> Option<usize>
+pub(crate) fn first_from(places: &[usize], from: usize) -> Option<usize>
     ensures { IsRising places.now → IsFirstFrom places.now from result }
 {
     let at = match places.binary_search(&from) {
@@ -57,5 +59,43 @@ fn first_from(places: &[usize], from: usize) -> Option<usize>
         Some(places[at])
     } else {
         None
+    }
+}
+
+/// The first of some places, from a number on, whose key has this label of a first argument, or none. Looks at each.
+pub(crate) fn first_allowed(
+    keys: &[HeadKey],
+    places: &[usize],
+    argument: Label,
+    from: usize,
+) -> Option<usize>
+    ensures { IsFirstAllowed keys.now places.now argument from result }
+{
+    for at in 0..places.len() {
+        let place = places[at];
+        if place >= from && is_allowed_at(keys, place, argument) {
+            return Some(place);
+        }
+    }
+    None
+}
+
+/// Whether the key at a place has this label of a first argument, or none.
+fn is_allowed_at(keys: &[HeadKey], place: usize, argument: Label) -> bool
+    ensures { IsTrue result ↔ IsAllowedAt keys.now argument place }
+{
+    match keys.get(place) {
+        Some(key) => is_allowed(key.first, argument),
+        None => false,
+    }
+}
+
+/// Whether the label of a first argument is this one, or there is none.
+fn is_allowed(own: Option<Label>, argument: Label) -> bool
+    ensures { IsTrue result ↔ AllowsLabel argument own }
+{
+    match own {
+        Some(own) => own == argument,
+        None => true,
     }
 }

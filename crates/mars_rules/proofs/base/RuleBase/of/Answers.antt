@@ -19,14 +19,11 @@ pub invariant_of-result : goal.invariant_of-result
 invariant_of-result c = record {
   rules_are = c.requires;
   flat_are = subst (λ rs. AllPaired IsFlatRule rs c.in_ok-flat.flat.items) c.deref.ensures.value c.in_ok-flat.ensures;
+  keys_are = subst (λ rs. AllPaired IsFirstKey rs c.in_ok-keys.keys.items) c.deref-4.ensures.value c.in_ok-keys.ensures;
   heads_are = record {
     keys = c.in_ok-head_keys.field-0.items;
     each = subst (λ rs. AllPaired IsHeadKey rs c.in_ok-head_keys.field-0.items) c.deref-2.ensures.value c.in_ok-head_keys.ensures;
-    filed = subst (λ ks. AreFiledPlaces ks c.in_ok-heads.heads.entries) c.deref-3.ensures.value c.in_ok-heads.ensures;
+    filed = subst (λ ks. AreFiledPlaces ks c.in_ok-heads.heads) c.deref-3.ensures.value c.in_ok-heads.ensures;
   };
-  firsts_are = record {
-    keys = c.in_ok-first_keys.field-0.items;
-    each = subst (λ rs. AllPaired IsFirstKey rs c.in_ok-first_keys.field-0.items) c.deref-4.ensures.value c.in_ok-first_keys.ensures;
-    filed = subst (λ ks. AreFiledPlaces ks c.in_ok-firsts.firsts.entries) c.deref-5.ensures.value c.in_ok-firsts.ensures;
-  };
+  firsts_are = subst (λ ks. AreFiledPlaces ks c.in_ok-firsts.firsts.entries) c.deref-5.ensures.value c.in_ok-firsts.ensures;
 }
