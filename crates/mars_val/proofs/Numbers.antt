@@ -1,5 +1,6 @@
 -- The number of a term is one, and those of its operands come sooner.
-use Rattle.std.proofs.Common.{◌≡◌, ◌⊎◌, ℕ, ℤ, zero, suc, ◌+◌, ◌<◌, ◌≤◌, List, [], ◌∷◌, length, get_or, slice_get, Contains, Option, Some, None, refl, sym, ap, ap₂, ◌∙◌, subst, arith, inl, inr}
+use Rattle.std.proofs.Common.{◌≡◌, ◌⊎◌, ℕ, ℤ, zero, suc, ◌+◌, ◌<◌, ◌≤◌, List, [], ◌∷◌, length, slice_get, Contains, Option, MatchOption, Some, None, refl, sym, ap, ap₂, ◌∙◌, subst, arith, inl, inr}
+use Rattle.std.specs.Option.{IfSome}
 use Rattle.std.proofs.lemmas.Option.{same_Some}
 use Rattle.mars_tree.specs.declared.label.Label.{Label}
 use Rattle.mars_tree.specs.declared.label.Label.TheVariants.{Name, Int, Dot, Tup, Str}
@@ -193,3 +194,14 @@ two-kids (x ∷ y ∷ z ∷ zs) a b h e f = absurd (omega arith)
 
 pub kids-count : (system : System) (n : ℕ) (o : Operation) → IsSystem system → root_of system n ≡ Some (operation_label o) → length (kids_of system.nodes (resolve system.bound n)) ≡ 2
 kids-count system n o sound e = (sound.older (resolve system.bound n)).kids ∙ ap arity_at e
+
+-- the number of an operation over two numbers, where it has a result
+pub number-over : (system : System) (n a b : ℕ) (o : Operation) (result : Option ℤ) (x y : ℤ) → root_of system n ≡ Some (operation_label o) → kids_of system.nodes (resolve system.bound n) ≡ a ∷ b ∷ [] → HasNumber system a x → HasNumber system b y
+    → MatchOption result ((z : ℤ) → IsResult o x y z → ⊥) (λ z. IsResult o x y z) → IfSome result (λ z. HasNumber system n z)
+number-over system n a b o None x y e k l r i = tt
+number-over system n a b o (Some z) x y e k l r i = applied o e k l r i
+
+-- a number of the end of the links
+pub number-from-end : (system : System) (n m : ℕ) (result : Option ℤ) → m ≡ resolve system.bound n → resolve system.bound m ≡ m → IfSome result (λ z. HasNumber system m z) → IfSome result (λ z. HasNumber system n z)
+number-from-end system n m None e last h = tt
+number-from-end system n m (Some z) e last h = same-end system m n z (last ∙ e) h

@@ -1,9 +1,10 @@
-//! The number of a term, found along a path of open terms.
+//! The number of a term, found at once or along a path of open terms.
 ghost use Rattle.std.specs.Prelude.{◌≡◌, ◌-◌, ◌<◌, ◌++◌, ◌∷◌, [], length, take, slice_set, Contains, Some, None, IfOk, OnOk};
 ghost use Rattle.mars_reach.specs.Order.{AreDistinct};
 ghost use Rattle.mars_val.specs.Number.{IsNumberOf};
 ghost use Rattle.mars_val.specs.NumberInside.{IsWork, IsStepped};
 
+use crate::direct::direct;
 use crate::operand::{Next, next_of};
 use crate::terms::Terms;
 use mars_base::NoMemory;
@@ -21,8 +22,20 @@ struct Work {
 
 /// The number of a node's tree: an integer's own, or the result of `add`, `sub`, `mul`, `div` and `mod` where both
 /// operands have numbers and it is in `i64`. `None` where it has none, as an infinite tree of operations. Linear in the
-/// nodes that it meets, and in their links.
+/// nodes that it meets, and in their links. The number of an integer, of an operation over two integers, or of one over
+/// operations on integers takes no memory.
 pub fn eval(alloc: Global, store: &Store, node: NodeId) -> Result<Option<i64>, NoMemory>
+    requires { node < length store.now.nodes }
+    ensures { IfOk result (λ number. IsNumberOf store.now node number) }
+{
+    match direct(store, node) {
+        Some(number) => Ok(Some(number)),
+        None => eval_path(alloc, store, node),
+    }
+}
+
+/// The number of a node's tree, found along a path of open terms.
+fn eval_path(alloc: Global, store: &Store, node: NodeId) -> Result<Option<i64>, NoMemory>
     requires { node < length store.now.nodes }
     ensures { IfOk result (λ number. IsNumberOf store.now node number) }
 {

@@ -1,6 +1,7 @@
 //! The numbers of terms.
 #![tactic(auto)]
 
+mod direct;
 mod evaluation;
 mod laws;
 mod operand;

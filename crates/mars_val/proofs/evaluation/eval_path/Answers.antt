@@ -1,4 +1,4 @@
-use Rattle.std.proofs.Common.{◌≡◌, ◌∙◌, ap, subst, sym, length, get_or, None, arith}
+use Rattle.std.proofs.Common.{◌≡◌, ◌∙◌, subst, sym, length, get_or, None, arith}
 use Rattle.std.specs.Vec.{vec_len}
 use Rattle.std.proofs.lemmas.Bool.{eqb-true}
 use Rattle.std.proofs.lemmas.List.{get_or_default}
@@ -7,7 +7,7 @@ use Rattle.mars_store.specs.System.{resolve}
 use Rattle.mars_store.proofs.CallerLemmas.{resolve-unbound}
 use Rattle.mars_val.specs.NumberInside.{IsStepped}
 use Rattle.mars_val.proofs.Working.{work-begins, work-done, number-of-end}
-use Rattle.mars_val.proofs.evaluation.eval.Goals as goal
+use Rattle.mars_val.proofs.evaluation.eval_path.Goals as goal
 
 pub loop-work-init : goal.loop-work-init
 loop-work-init c =

@@ -1,7 +1,7 @@
 use Rattle.std.proofs.Common.{◌≡◌, get_or}
 use Rattle.mars_store.specs.System.{resolve}
 use Rattle.mars_val.specs.NumberInside.{IsWork, work_left}
-use Rattle.mars_val.proofs.evaluation.eval.Given as goal
+use Rattle.mars_val.proofs.evaluation.eval_path.Given as goal
 
 -- the work is that of the node
 abbrev pub invariant-loop-work : goal.invariant-loop-work
