@@ -10,6 +10,9 @@ export LC_ALL=C
 cd "$(dirname "$0")/.."
 program=crates/marseille/out/marseille
 ./marseille < examples/first.mars > /dev/null
+# what the script tells the allocator
+eval "$(grep '^memory=' marseille)"
+export GLIBC_TUNABLES=$memory
 inputs=$(mktemp -d)
 trap 'rm -r "$inputs"' EXIT
 
