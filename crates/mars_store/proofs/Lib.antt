@@ -1,4 +1,5 @@
 pub mod CallerLemmas
+mod Celled
 mod Found
 mod Growing
 mod Links

@@ -10,6 +10,7 @@ use Rattle.mars_store.specs.declared.mark.Mark.{Mark}
 use Rattle.mars_store.specs.System.{System, IsSystem, resolve, IsTriangular, IsUnbound, IsLink, IsMark, equation_of, linked, with_node, undone, rank, rank_of}
 use Rattle.mars_store.specs.LinksInside.{target_of, IsStored}
 use Rattle.mars_store.proofs.Links.{leaf_node, link-moved, triangular-push, All-front, All-last, resolve-unbound, resolve-same, resolve-last}
+use Rattle.mars_store.proofs.Solving.{label-within}
 use Rattle.mars_store.proofs.Growing.{system-node}
 
 target_of-unbound : (bound : List (ℕ × ℕ)) (n : ℕ) → IsUnbound bound n → target_of bound n ≡ n
@@ -240,6 +241,27 @@ stored-linked_view nodes links next bound more system x y view st =
       stored-linked nodes links next bound more x y st x_in free end y_in hy ne p q,
       rw q refl,
     ))
+
+-- a link to a node with a label
+pub stored-bound_to : (nodes : List Node) (links next : List ℕ) (bound more : List (ℕ × ℕ)) (system : System) (x y : ℕ)
+    → record { nodes = nodes; bound = bound } ≡ system → IsStored nodes links bound
+    → x < length system.nodes → label_of system.nodes x ≡ None → resolve system.bound x ≡ x → label_of system.nodes y ≢ None
+    → next ≡ set links x y → more ≡ bound ++ (x, y) ∷ []
+    → IsStored nodes next more × (record { nodes = nodes; bound = more } ≡ linked system x y)
+stored-bound_to nodes links next bound more system x y view st x_in free end labelled p q = go (label_of system.nodes y) refl
+  where
+    go : (o : Option Label) → label_of system.nodes y ≡ o → IsStored nodes next more × (record { nodes = nodes; bound = more } ≡ linked system x y)
+    go None e = absurd (labelled e)
+    go (Some label) e =
+        let sound : IsSystem system = subst IsSystem view st.system in
+        let rank-x : rank system.nodes x ≡ x + 1 = rw free refl in
+        let rank-y : rank system.nodes y ≡ 0 = rw e refl in
+        let equation : (x, y) ≡ equation_of system.nodes x y = rw (lt-ltb (rank system.nodes y) (rank system.nodes x) (omega (arith, rank-x, rank-y))) refl in
+        let unbound : IsUnbound system.bound y =
+        All-weaker (IsLink system.nodes) (λ equation. equation.0 ≢ y) (λ equation l same. labelled (subst (λ n. label_of system.nodes n ≡ None) same l.variable.free)) system.bound sound.links in
+        stored-linked_view nodes links next bound more system x y view st x_in free end (label-within system.nodes y label e) unbound
+        (λ same. labelled (subst (λ n. label_of system.nodes n ≡ None) (sym same) free))
+        (p ∙ ap (λ (e : ℕ × ℕ). set links e.0 e.1) equation) (q ∙ ap (λ (e : ℕ × ℕ). bound ++ e ∷ []) equation)
 
 -- one equation is undone
 pub undo-step : (nodes : List Node) (links : List ℕ) (trail rest : List (ℕ × ℕ)) (x y k : ℕ)

@@ -8,4 +8,5 @@ pub mod Laws
 pub mod Marks
 pub mod Shown
 -- Inside: the code's own steps, promised to nobody.
+pub mod CellsInside
 pub mod LinksInside

@@ -18,7 +18,6 @@ use std::marker::Model;
 #[derive(Drop)]
 pub struct Store {
     nodes: Nodes,
-    links: Vec<usize>,
     trail: Vec<(usize, usize)>,
 }
 
@@ -29,9 +28,9 @@ impl Model for Store {
 
     ghost use Rattle.mars_store.specs.LinksInside.{IsStored};
 
-    ghost view = { λ s. record { nodes = s.nodes; bound = s.trail.items } };
+    ghost view = { λ s. record { nodes = s.nodes.nodes; bound = s.trail.items } };
 
-    ghost invariant = { λ s. IsStored s.nodes s.links.items s.trail.items };
+    ghost invariant = { λ s. IsStored s.nodes.nodes s.nodes.links s.trail.items };
 }
 
 impl Store {
@@ -41,7 +40,6 @@ impl Store {
     {
         Store {
             nodes: Nodes::new(alloc),
-            links: Vec::new(alloc),
             trail: Vec::new(alloc),
         }
     }
@@ -82,10 +80,8 @@ impl Store {
         ensures ok { OnOk result (self.new ≡ with_node self.old (labelled label (map (node_at nodes.now) places.now))) }
         ensures err { OnErr result (self.new ≡ self.old) }
     {
-        let node = self.links.len();
-        self.links.reserve(1)?;
+        let node = self.nodes.len();
         self.nodes.push_over(label, places, nodes)?;
-        self.links.push_reserved(node);
         Ok(NodeId(node))
     }
 
@@ -97,10 +93,8 @@ impl Store {
         ensures ok { OnOk result (self.new ≡ with_node self.old (record { label = label; kids = kids.now })) }
         ensures err { OnErr result (self.new ≡ self.old) }
     {
-        let node = self.links.len();
-        self.links.reserve(1)?;
+        let node = self.nodes.len();
         self.nodes.push(label, kids)?;
-        self.links.push_reserved(node);
         Ok(NodeId(node))
     }
 
@@ -119,7 +113,22 @@ impl Store {
     {
         let last = self.deref(to);
         let (young, old) = self.in_order(var.0, last.0);
-        link(&mut self.links, &mut self.trail, young, old)?;
+        link(&mut self.nodes, &mut self.trail, young, old)?;
+        Ok(())
+    }
+
+    /// Makes a free variable, itself an end of links, equal to a node that has a label.
+    #[inline]
+    pub fn bind_to(&mut self, var: NodeId, to: NodeId) -> Result<(), NoMemory>
+        requires var_in { var < length self.old.nodes }
+        requires free { label_of self.old.nodes var ≡ None }
+        requires end { resolve self.old.bound var ≡ var }
+        requires labelled { label_of self.old.nodes to ≢ None }
+        ensures ok { OnOk result (self.new ≡ linked self.old var to) }
+        ensures err { OnErr result (self.new ≡ self.old) }
+        ensures system { IsSystem self.new }
+    {
+        link(&mut self.nodes, &mut self.trail, var.0, to.0)?;
         Ok(())
     }
 
@@ -146,8 +155,8 @@ impl Store {
         ensures system { IsSystem self.now }
     {
         let mut last = node.0;
-        while self.links[last] != last {
-            last = self.links[last];
+        while self.nodes.link(last) != last {
+            last = self.nodes.link(last);
         }
         NodeId(last)
     }
@@ -186,6 +195,17 @@ impl Store {
         self.nodes.kid(last.0, place)
     }
 
+    /// The kids of a node that has so many; links aren't followed.
+    #[inline(always)]
+    pub fn kids(&self, node: NodeId, arity: usize) -> &[NodeId]
+        requires inside { node < length self.now.nodes }
+        requires arity { arity ≡ length (kids_of self.now.nodes node) }
+        ensures kids { result.now ≡ kids_of self.now.nodes node }
+        ensures system { IsSystem self.now }
+    {
+        self.nodes.kids(node.0, arity)
+    }
+
     /// The equation at a place of the trail, counted from 0 in the order of binding.
     pub fn equation(&self, place: usize) -> (NodeId, NodeId)
         requires { place < length self.now.bound }
@@ -214,29 +234,30 @@ impl Store {
     {
         while self.trail.len() > mark.bound {
             match self.trail.pop() {
-                Some((var, _)) => self.links[var] = var,
+                Some((var, _)) => self.nodes.set_link(var, var),
                 None => unreachable!(),
             }
         }
         self.nodes.truncate(mark.nodes);
-        self.links.truncate(mark.nodes);
     }
 }
 
 /// Links a variable to a node, and remembers it on the trail.
+#[inline]
 fn link(
-    links: &mut Vec<usize>,
+    nodes: &mut Nodes,
     trail: &mut Vec<(usize, usize)>,
     young: usize,
     old: usize,
 ) -> Result<(), NoMemory>
-    requires { young < length links.old.items }
-    ensures links { OnOk result (links.new.items ≡ slice_set links.old.items young old) }
+    requires { young < length nodes.old.nodes }
+    ensures nodes { nodes.new.nodes ≡ nodes.old.nodes }
+    ensures links { OnOk result (nodes.new.links ≡ slice_set nodes.old.links young old) }
     ensures trail { OnOk result (trail.new.items ≡ trail.old.items ++ (young, old) ∷ []) }
-    ensures links_err { OnErr result (links.new.items ≡ links.old.items) }
+    ensures err { OnErr result (nodes.new ≡ nodes.old) }
     ensures trail_err { OnErr result (trail.new.items ≡ trail.old.items) }
 {
     trail.push((young, old))?;
-    links[young] = old;
+    nodes.set_link(young, old);
     Ok(())
 }
