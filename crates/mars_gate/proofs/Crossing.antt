@@ -68,7 +68,7 @@ command_sync : IsSync Command.the_row
 command_sync = search (variants_sync, as_row_sync, plain_sync, name_id.the_sync, graph.the_sync, ask_sync, tt) depth 12
 
 base_sync : IsSync RuleBase.the_row
-base_sync = search (view_sync, declared_sync, as_row_sync, plain_sync, crosses, global.the_sync, rule_sync, version.the_sync, flat_rule.the_sync, index_map.the_sync, hashers.the_sync, hasher.the_sync, head_key.the_sync, heads.the_sync, tt) depth 12
+base_sync = search (view_sync, declared_sync, as_row_sync, plain_sync, crosses, global.the_sync, rule_sync, version.the_sync, flat_rule.the_sync, index_map.the_sync, hashers.the_sync, hasher.the_sync, head_key.the_sync, heads.the_sync, tt) depth 24
 
 machine_send : (κ : NamedLft) → IsSend (Machine.the_row κ)
 machine_send κ = search (view_send, declared_send, as_row_send, plain_send, shr_send, crosses, global.the_send, option.the_send, ask_send, base_sync, tree.the_send, memory.the_send, points.the_send, registers.the_send, node_id.the_send, goal_list.the_send, tt) depth 40
