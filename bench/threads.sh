@@ -3,8 +3,8 @@
 # as many that is as with one session. First with no table call: each session makes and reverses a list of 300 numbers 60
 # times. Then with a table call every 104 steps: each session makes and reverses a list of eleven, and then counts, or
 # keeps the list; 128 times, and 32 times where there are 32 sessions, which is as many commands as an input may have.
-# What reading takes is left out: it is measured by the same input, refused at its last token. Each time is the best of 5
-# runs, or of 100 short ones. Takes about a minute.
+# What reading takes is left out: it is measured by the same input, refused at its last token. Each time is the best of
+# 20 runs, of 5 with 32 sessions, or of 100 short ones. Takes about two minutes.
 set -eu
 export LC_ALL=C
 cd "$(dirname "$0")/.."
@@ -66,7 +66,8 @@ for calls in none count keep; do
     one=0
     for sessions in 1 2 4 32; do
         case "$calls $sessions" in
-            none*) each=60 runs=5 ;;
+            'none 32') each=60 runs=5 ;;
+            none*) each=60 runs=20 ;;
             *' 32') each=32 runs=100 ;;
             *) each=128 runs=100 ;;
         esac
