@@ -1,5 +1,5 @@
 //! Term graphs: nodes with labels over kids, and free leaves, in flat vectors.
-ghost use Rattle.std.specs.Prelude.{◌≡◌, ◌<◌, ◌≤◌, ◌+◌, ◌++◌, ◌∷◌, [], length, replicate, slice_get, Some, IfOk, OnOk, OnErr, All, take, drop};
+ghost use Rattle.std.specs.Prelude.{◌≡◌, ◌<◌, ◌≤◌, ◌+◌, ◌++◌, ◌∷◌, [], length, replicate, slice_get, Some, IfOk, OnOk, OnErr, All, take, drop, get_or};
 ghost use Rattle.mars_tree.specs.Label.{arity_of};
 ghost use Rattle.mars_tree.specs.Graph.{IsGraph, label_of, kids_of, with_kid, labelled, free_leaf};
 ghost use Rattle.mars_tree.specs.Stored.{kid_count, nodes_of};
@@ -149,7 +149,20 @@ impl Graph {
         ensures kids { result.now ≡ kids_of self.now node }
         ensures in_range { All (λ kid. kid < length self.now) result.now }
     {
-        part(&self.kids, self.starts[node], self.arity(node))
+        let start = self.starts[node];
+        part(&self.kids, start, end(&self.starts, node, self.kids.len()) - start)
+    }
+}
+
+/// Where the kids of a node end: where those of the next begin, or at the last one's end.
+fn end(starts: &[usize], node: usize, last: usize) -> usize
+    requires { node < length starts.now }
+    ensures { result ≡ get_or starts.now (node + 1) last }
+{
+    if node + 1 < starts.len() {
+        starts[node + 1]
+    } else {
+        last
     }
 }
 
