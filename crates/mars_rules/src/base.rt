@@ -26,7 +26,8 @@ use sqlite_items::Items;
 use std::alloc::Global;
 use std::marker::Model;
 
-/// Of how many rules with one label of the head each is looked at. More are looked up by the first argument, too.
+/// Up to so many rules with one label of the head are looked at one by one; where there are more, they are looked up by the
+/// first argument, too.
 const FEW: usize = 8;
 
 /// Rules in order, with a version. Each is kept as nodes, too, and its place is filed by the labels of its head and of

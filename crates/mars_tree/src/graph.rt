@@ -150,7 +150,11 @@ impl Graph {
         ensures in_range { All (λ kid. kid < length self.now) result.now }
     {
         let start = self.starts[node];
-        part(&self.kids, start, end(&self.starts, node, self.kids.len()) - start)
+        part(
+            &self.kids,
+            start,
+            end(&self.starts, node, self.kids.len()) - start,
+        )
     }
 }
 
