@@ -32,7 +32,7 @@ use Rattle.mars_store.proofs.node_id.NodeId.TheSendSync as node_id
 use Rattle.mars_goals.proofs.points.ChoicePoints.TheSendSync as points
 use Rattle.mars_goals.proofs.goal_list.GoalList.TheSendSync as goal_list
 use Rattle.mars_memory.proofs.memory.Memory.TheSendSync as memory
-use Rattle.mars_memory.proofs.taking.Registers.TheSendSync as registers
+use Rattle.mars_store.proofs.registers.Registers.TheSendSync as registers
 use Rattle.mars_run.specs.contracts.machine.Machine as Machine
 use Rattle.mars_answer.proofs.answers.Answer.TheSendSync as answer
 use Rattle.mars_table.proofs.entry.Entry.TheSendSync as entry

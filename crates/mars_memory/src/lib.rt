@@ -13,5 +13,5 @@ mod telling;
 pub use built_ins::call_built_in;
 pub use laws::memory_marks;
 pub use memory::Memory;
-pub use taking::{Registers, take_rule};
+pub use taking::take_rule;
 pub use telling::{tell_answer, tell_text, tell_tree};

@@ -6,16 +6,16 @@ ghost use Rattle.mars_memory.specs.ListsInside.{ArePushed, pending_of, pendings_
 use mars_base::NoMemory;
 use mars_goals::{GoalArena, GoalList, Pending};
 use mars_rules::FlatGoal;
-use mars_store::NodeId;
+use mars_store::{NodeId, Registers};
 
 /// A goal of a body over the nodes of its rule's places, whose cut keeps so many choice points.
 #[inline]
-fn pending(goal: FlatGoal, registers: &[Option<NodeId>], depth: usize) -> Pending
+fn pending(goal: FlatGoal, registers: &Registers, depth: usize) -> Pending
     requires { HasGoalNode registers.now goal }
     ensures { result ≡ pending_of registers.now depth goal }
 {
     match goal {
-        FlatGoal::Call(place) => match registers[place] {
+        FlatGoal::Call(place) => match registers.get(place) {
             Some(node) => Pending::Call(node),
             None => unreachable!(),
         },
@@ -27,7 +27,7 @@ fn pending(goal: FlatGoal, registers: &[Option<NodeId>], depth: usize) -> Pendin
 pub(crate) fn push_body(
     lists: &mut GoalArena,
     goals: &[FlatGoal],
-    registers: &[Option<NodeId>],
+    registers: &Registers,
     depth: usize,
     rest: GoalList,
 ) -> Result<GoalList, NoMemory>

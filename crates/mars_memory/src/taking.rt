@@ -11,25 +11,8 @@ use mars_base::NoMemory;
 use mars_goals::GoalList;
 use mars_matching::{build_body, match_head};
 use mars_rules::FlatRule;
-use mars_store::NodeId;
+use mars_store::{NodeId, Registers};
 use std::alloc::Global;
-
-/// The nodes of a rule's places while it is tried. What is in it before a call doesn't matter.
-#[derive(Drop)]
-pub struct Registers {
-    pub(crate) nodes: Vec<Option<NodeId>>,
-    pub(crate) kids: Vec<NodeId>,
-}
-
-impl Registers {
-    /// No place has a node.
-    pub fn new(alloc: Global) -> Registers {
-        Registers {
-            nodes: Vec::new(alloc),
-            kids: Vec::new(alloc),
-        }
-    }
-}
 
 /// Tries one rule on a call before a list, which is made before so many choice points: `None` exactly where the call has no
 /// child by the rule, and else the goals of the child.
@@ -47,14 +30,7 @@ pub fn take_rule(
     ensures { IfOk result (IsTaken memory.old node rest depth flat.now memory.new) }
 {
     let mark = memory.mark();
-    if !match_head(
-        alloc,
-        &mut memory.store,
-        &flat.template,
-        node,
-        &mut registers.nodes,
-        &mut registers.kids,
-    )? {
+    if !match_head(alloc, &mut memory.store, &flat.template, node, registers)? {
         return Ok(None);
     }
     let list = write_body(memory, flat, rest, depth, registers)?;
@@ -77,21 +53,10 @@ fn write_body(
 ) -> Result<GoalList, NoMemory>
     requires inside { rest < length memory.old.lists }
     requires rule { HasRule flat.now }
-    requires matched { IsHeadMatched flat.now memory.old.system registers.old.nodes.items }
-    ensures { IfOk result (λ list. IsBodyWritten memory.old memory.new flat.now rest depth registers.old.nodes.items registers.new.nodes.items list) }
+    requires matched { IsHeadMatched flat.now memory.old.system registers.old }
+    ensures { IfOk result (λ list. IsBodyWritten memory.old memory.new flat.now rest depth registers.old registers.new list) }
 {
-    build_body(
-        &mut memory.store,
-        &flat.template,
-        &mut registers.nodes,
-        &mut registers.kids,
-    )?;
-    let list = push_body(
-        &mut memory.lists,
-        &flat.goals,
-        &registers.nodes,
-        depth,
-        rest,
-    )?;
+    build_body(&mut memory.store, &flat.template, registers)?;
+    let list = push_body(&mut memory.lists, &flat.goals, registers, depth, rest)?;
     Ok(list)
 }

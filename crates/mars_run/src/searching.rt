@@ -8,9 +8,9 @@ ghost use Rattle.mars_run.specs.Searching.{AreRulesTried, with_left, IsChildChos
 
 use mars_base::NoMemory;
 use mars_goals::{Choice, ChoicePoints, GoalList};
-use mars_memory::{Memory, Registers, take_rule};
+use mars_memory::{Memory, take_rule};
 use mars_rules::RuleBase;
-use mars_store::NodeId;
+use mars_store::{NodeId, Registers};
 use std::alloc::Global;
 
 /// The place after a rule's. So many rules that it is no number are more than memory has.

@@ -11,9 +11,9 @@ use crate::searching::{call_rules, next_alternative};
 use mars_base::NoMemory;
 use mars_goals::{ChoicePoints, GoalList, Pending};
 use mars_machine::{BuiltIn, Stepped, built_in_of};
-use mars_memory::{Memory, Registers, call_built_in, tell_answer};
+use mars_memory::{Memory, call_built_in, tell_answer};
 use mars_rules::RuleBase;
-use mars_store::NodeId;
+use mars_store::{NodeId, Registers};
 use std::alloc::Global;
 
 /// What a step told, and the goals with which the machine goes on, if any alternative is left.

@@ -1,10 +1,9 @@
 -- Nodes and their links as they are kept in cells.
-use Rattle.std.proofs.Common.{◌≡◌, ℕ, ◌<◌, ◌≤◌, ◌+◌, List, [], ◌∷◌, ◌++◌, Option, Some, None, length, map, set, take, get_or, sym, ap, ◌∙◌, arith, All}
+use Rattle.std.proofs.Common.{◌≡◌, ℕ, ◌<◌, ◌+◌, List, [], ◌∷◌, ◌++◌, None, length, set, take, get_or, sym, ap, ◌∙◌, arith, All}
 use Rattle.std.proofs.lemmas.List.{length-map, get_or-map, map-append, map-set, take-map}
 use Rattle.std.proofs.lemmas.List.Elements.{All-weaker}
 use Rattle.std.proofs.Math.Seq.{map-set_same}
-use Rattle.mars_tree.specs.declared.label.Label.{Label}
-use Rattle.mars_tree.specs.Graph.{Node, IsGraph, label_of, kids_of, arity_at}
+use Rattle.mars_tree.specs.Graph.{IsGraph, label_of, arity_at}
 use Rattle.mars_tree.specs.Stored.{IsLaid, nodes_of}
 use Rattle.mars_tree.proofs.Laid.{seen-length, seen-label, seen-start, seen-push, laid-push, laid_like}
 use Rattle.mars_tree.proofs.Cut.{laid-cut}

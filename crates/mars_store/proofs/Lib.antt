@@ -5,6 +5,7 @@ mod Growing
 mod Links
 mod Marks
 mod Plain
+mod Registered
 mod Roots
 mod Shown
 mod Solving

@@ -10,3 +10,4 @@ pub mod Shown
 -- Inside: the code's own steps, promised to nobody.
 pub mod CellsInside
 pub mod LinksInside
+pub mod RegistersInside

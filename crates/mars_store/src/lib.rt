@@ -5,6 +5,7 @@ mod laws;
 mod mark;
 mod node_id;
 mod nodes;
+mod registers;
 mod store;
 
 pub use laws::{
@@ -13,4 +14,5 @@ pub use laws::{
 };
 pub use mark::Mark;
 pub use node_id::NodeId;
+pub use registers::Registers;
 pub use store::Store;

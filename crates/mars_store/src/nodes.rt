@@ -1,13 +1,14 @@
 //! A graph that grows at its end and is cut there, with a link for each node: a cell has a node's label, where its kids
 //! begin, and its link; all kids are in one list. A node's kids are put there from where they are found, without a list
 //! between.
-ghost use Rattle.std.specs.Prelude.{◌≡◌, ◌<◌, ◌≤◌, ◌+◌, ◌++◌, ◌∷◌, [], length, map, take, drop, slice_get, slice_set, slice_index_or, Some, OnOk, OnErr, All};
+ghost use Rattle.std.specs.Prelude.{◌≡◌, ◌<◌, ◌≤◌, ◌+◌, ◌++◌, ◌∷◌, [], ℕ, length, map, take, drop, slice_get, slice_set, slice_index_or, Some, OnOk, OnErr, All};
 ghost use Rattle.mars_tree.specs.Label.{arity_of};
 ghost use Rattle.mars_tree.specs.Graph.{IsGraph, Node, arity_at, label_of, kids_of, labelled};
 ghost use Rattle.mars_store.specs.System.{IsNodeAt, node_at};
 ghost use Rattle.mars_store.specs.CellsInside.{LinkedNodes, with_cell};
 
 use crate::node_id::NodeId;
+use crate::registers::Registers;
 use mars_base::NoMemory;
 use mars_tree::Label;
 use std::alloc::Global;
@@ -83,7 +84,7 @@ impl Nodes {
         &mut self,
         label: Label,
         places: &[usize],
-        nodes: &[Option<NodeId>],
+        nodes: &Registers,
     ) -> Result<(), NoMemory>
         requires arity { length places.now ≡ arity_of label }
         requires filled { All (IsNodeAt nodes.now (length self.old.nodes)) places.now }
@@ -185,24 +186,12 @@ fn push_all(kids: &[NodeId], into: &mut Vec<NodeId>)
 
 /// Puts the nodes of places last in a list, which has room for them.
 #[inline]
-fn push_found(places: &[usize], nodes: &[Option<NodeId>], into: &mut Vec<NodeId>)
+fn push_found(places: &[usize], nodes: &Registers, into: &mut Vec<NodeId>)
     requires room { into.old.len + length places.now ≤ into.old.cap }
-    requires filled { All (λ place. place < length nodes.now) places.now }
+    requires filled { All (λ place. (node : ℕ) × (slice_get nodes.now place ≡ Some (Some node))) places.now }
     ensures { into.new.items ≡ into.old.items ++ map (node_at nodes.now) places.now }
 {
     for place in places {
-        into.push_reserved(found(nodes, *place));
-    }
-}
-
-/// The node of a place, the default where it has none.
-#[inline(always)]
-fn found(nodes: &[Option<NodeId>], place: usize) -> NodeId
-    requires { place < length nodes.now }
-    ensures { result ≡ node_at nodes.now place }
-{
-    match nodes[place] {
-        Some(node) => node,
-        None => NodeId(0),
+        into.push_reserved(nodes.node(*place));
     }
 }

@@ -8,6 +8,7 @@ ghost use Rattle.mars_store.specs.Laws.{IsForced, IsUnforced};
 use crate::mark::Mark;
 use crate::node_id::NodeId;
 use crate::nodes::Nodes;
+use crate::registers::Registers;
 use mars_base::NoMemory;
 use mars_tree::Label;
 use std::alloc::Global;
@@ -66,13 +67,13 @@ impl Store {
         self.push(None, &[])
     }
 
-    /// Adds a node with a label over the nodes that a list has at places, linear in these.
+    /// Adds a node with a label over the nodes of places, linear in these.
     #[inline]
     pub fn add_over(
         &mut self,
         label: Label,
         places: &[usize],
-        nodes: &[Option<NodeId>],
+        nodes: &Registers,
     ) -> Result<NodeId, NoMemory>
         requires arity { length places.now ≡ arity_of label }
         requires filled { All (IsNodeAt nodes.now (length self.old.nodes)) places.now }

@@ -11,7 +11,7 @@ use mars_answer::answer;
 use mars_base::NoMemory;
 use mars_matching::{Template, build_body, match_head};
 use mars_reach::rooted_part;
-use mars_store::{NodeId, Store};
+use mars_store::{NodeId, Registers, Store};
 use mars_tree::Graph;
 use rows::{label_at, set_kid_at};
 use std::alloc::Global;
@@ -264,9 +264,8 @@ fn match_goal(
     requires template { IsTemplate rule.now }
     requires goal_in { goal < length store.old.nodes }
 {
-    let mut registers = Vec::new(alloc);
-    let mut kids = Vec::new(alloc);
-    if match_at(alloc, store, rule, goal, &mut registers, &mut kids)? {
+    let mut registers = Registers::new(alloc);
+    if match_at(alloc, store, rule, goal, &mut registers)? {
         Ok(Some(last_of(&registers)))
     } else {
         Ok(None)
@@ -279,24 +278,24 @@ fn match_at(
     store: &mut Store,
     rule: &Template,
     goal: NodeId,
-    registers: &mut Vec<Option<NodeId>>,
-    kids: &mut Vec<NodeId>,
+    registers: &mut Registers,
 ) -> Result<bool, NoMemory>
     requires template { IsTemplate rule.now }
     requires goal_in { goal < length store.old.nodes }
 {
-    let matched = match_head(alloc, store, rule, goal, registers, kids)?;
+    let matched = match_head(alloc, store, rule, goal, registers)?;
     if matched {
-        build_body(store, rule, registers, kids)?;
+        build_body(store, rule, registers)?;
     }
     Ok(matched)
 }
 
 /// The node in the last register, which is that of the body.
-fn last_of(registers: &[Option<NodeId>]) -> Option<NodeId> {
-    match registers.last() {
-        Some(last) => *last,
-        None => None,
+fn last_of(registers: &Registers) -> Option<NodeId> {
+    if registers.len() > 0 {
+        registers.get(registers.len() - 1)
+    } else {
+        None
     }
 }
 

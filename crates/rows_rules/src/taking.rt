@@ -7,7 +7,7 @@ use crate::terms::{is_inside, push_term};
 use mars_base::NoMemory;
 use mars_matching::{Template, build_body, match_head};
 use mars_rules::{BodyGoal, FlatGoal, FlatRule, RuleBase};
-use mars_store::{NodeId, Store};
+use mars_store::{NodeId, Registers, Store};
 use mars_tree::{Label, Names};
 use rows::{Stop, push_number};
 use std::alloc::Global;
@@ -112,7 +112,7 @@ fn push_try(
     push_number(rule, into)?;
     into.extend_from_slice(b": ")?;
     if is_inside(store, goal) {
-        let mut registers = Vec::new(alloc);
+        let mut registers = Registers::new(alloc);
         take(
             alloc,
             names,
@@ -140,7 +140,7 @@ fn take(
     rule: &FlatRule,
     store: &mut Store,
     goal: NodeId,
-    registers: &mut Vec<Option<NodeId>>,
+    registers: &mut Registers,
     into: &mut Vec<u8>,
 ) -> Result<(), NoMemory>
     requires template { IsTemplate rule.now.template }
@@ -163,17 +163,16 @@ fn is_taken(
     rule: &Template,
     store: &mut Store,
     goal: NodeId,
-    registers: &mut Vec<Option<NodeId>>,
+    registers: &mut Registers,
 ) -> Result<bool, NoMemory>
     requires template { IsTemplate rule.now }
     requires goal_in { goal < length store.old.nodes }
     ensures { OnOk result (Grows store.old store.new) }
 {
-    let mut kids = Vec::new(alloc);
-    if !match_head(alloc, store, rule, goal, registers, &mut kids)? {
+    if !match_head(alloc, store, rule, goal, registers)? {
         return Ok(false);
     }
-    build_body(store, rule, registers, &mut kids)?;
+    build_body(store, rule, registers)?;
     Ok(true)
 }
 
@@ -184,7 +183,7 @@ fn push_taken(
     store: &Store,
     goal: NodeId,
     goals: &[FlatGoal],
-    registers: &[Option<NodeId>],
+    registers: &Registers,
     into: &mut Vec<u8>,
 ) -> Result<(), NoMemory> {
     into.extend_from_slice(b" ")?;
@@ -193,7 +192,7 @@ fn push_taken(
     for goal in goals {
         into.extend_from_slice(b" ")?;
         match goal {
-            FlatGoal::Call(place) => push_place(alloc, names, store, registers.get(*place), into)?,
+            FlatGoal::Call(place) => push_place(alloc, names, store, registers, *place, into)?,
             FlatGoal::Cut => into.extend_from_slice(b"/")?,
         }
     }
@@ -206,11 +205,17 @@ fn push_place(
     alloc: Global,
     names: &Names,
     store: &Store,
-    register: Option<&Option<NodeId>>,
+    registers: &Registers,
+    place: usize,
     into: &mut Vec<u8>,
 ) -> Result<(), NoMemory> {
-    match register {
-        Some(Some(node)) => push_term(alloc, names, store, *node, into),
-        _ => Ok(into.extend_from_slice(b"?")?),
+    let node = if place < registers.len() {
+        registers.get(place)
+    } else {
+        None
+    };
+    match node {
+        Some(node) => push_term(alloc, names, store, node, into),
+        None => Ok(into.extend_from_slice(b"?")?),
     }
 }

@@ -5,7 +5,7 @@ ghost use Rattle.mars_matching.specs.Trees.{IsTemplate};
 use mars_base::NoMemory;
 use mars_matching::{Template, build_body, match_head};
 use mars_rules::RuleBase;
-use mars_store::{NodeId, Store};
+use mars_store::{NodeId, Registers, Store};
 use mars_tree::Label;
 use std::alloc::Global;
 
@@ -16,11 +16,10 @@ pub fn steps(alloc: Global, base: &RuleBase, rule: usize, calls: u64) -> Result<
     let rule = template_of(base, rule);
     let mut store = Store::new(alloc);
     let goal = add_goal(&mut store, rule)?;
-    let mut registers = Vec::new(alloc);
-    let mut kids = Vec::new(alloc);
+    let mut registers = Registers::new(alloc);
     let mut added = 0;
     for _ in 0..calls {
-        added = step(alloc, &mut store, rule, goal, &mut registers, &mut kids)?;
+        added = step(alloc, &mut store, rule, goal, &mut registers)?;
     }
     Ok(added)
 }
@@ -58,18 +57,17 @@ fn step(
     store: &mut Store,
     rule: &Template,
     goal: NodeId,
-    registers: &mut Vec<Option<NodeId>>,
-    kids: &mut Vec<NodeId>,
+    registers: &mut Registers,
 ) -> Result<usize, NoMemory>
     requires template { IsTemplate rule.now }
     requires goal_in { goal < length store.old.nodes }
     ensures { IfOk result (λ added. store.new ≡ store.old) }
 {
     let mark = store.mark();
-    if !match_head(alloc, store, rule, goal, registers, kids)? {
+    if !match_head(alloc, store, rule, goal, registers)? {
         return Ok(0);
     }
-    build_body(store, rule, registers, kids)?;
+    build_body(store, rule, registers)?;
     let now = store.mark().nodes;
     store.undo_to(mark);
     Ok(now - mark.nodes)

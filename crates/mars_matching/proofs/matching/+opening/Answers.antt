@@ -1,4 +1,4 @@
-use Rattle.std.proofs.Common.{[], ◌∷◌, ◌++◌, ◌≡◌, ◌∙◌, refl, sym, subst, ap, ap₂, length, ◌<◌, arith, ℕ, List, Option, map}
+use Rattle.std.proofs.Common.{[], ◌∷◌, ◌++◌, ◌≡◌, ◌∙◌, refl, sym, subst, ap, length, ◌<◌, arith, ℕ, List, map}
 use Rattle.std.proofs.lemmas.List.Elements.{All-get_or}
 use Rattle.mars_tree.specs.Graph.{kids_of, labelled}
 use Rattle.mars_store.specs.System.{IsNodeAt, with_node, node_at}
@@ -16,7 +16,7 @@ open_kids-loop-at-preserved t c = record {
       let before = c.loop-at.invariant.kids in
       let there : c.loop-at.at < length c.kids-places.result.now = let test = c.loop-at-test.true in let most = c.loop-at.auto.at-end in omega arith in (
         before.0 ++ c.in_ok-open_kid.field-0 ∷ [],
-        open-step c.args.rule.now.nodes c.requires.template.older c.args.place c.args.store.now c.loop-at.store c.open_kid.new.store c.args.registers.now.items c.loop-at.registers.items _ before.0 _ c.loop-at.at _ _
+        open-step c.args.rule.now.nodes c.requires.template.older c.args.place c.args.store.now c.loop-at.store c.open_kid.new.store c.args.registers.now c.loop-at.registers _ before.0 _ c.loop-at.at _ _
             before.1 (kid-listed c.kids-places.result.now _ c.loop-at.at c.kids-places.ensures.kids there) c.in_ok-open_kid.ensures.ok c.open_kid.ensures.bound refl,
       );
 }
@@ -27,23 +27,23 @@ open_kids-returns-clause-ok t c =
     let all : c.loop-at.at ≡ length (kids_of nodes c.args.place) =
     let most = c.loop-at.auto.at-end in let done = c.loop-at-test.false in omega (arith, ap length c.kids-places.ensures.kids) in
     let opened = c.loop-at.invariant.kids in
-    opened-found nodes c.args.store.now c.loop-at.store c.args.registers.now.items c.loop-at.registers.items c.args.place opened.0
-    (subst (λ n. AreOpened nodes c.args.store.now c.loop-at.store c.args.registers.now.items c.loop-at.registers.items c.args.place opened.0 n) all opened.1)
+    opened-found nodes c.args.store.now c.loop-at.store c.args.registers.now c.loop-at.registers c.args.place opened.0
+    (subst (λ n. AreOpened nodes c.args.store.now c.loop-at.store c.args.registers.now c.loop-at.registers c.args.place opened.0 n) all opened.1)
 
 pub make-add_over-requires-clause-filled : goal.make-add_over-requires-clause-filled
 make-add_over-requires-clause-filled t c =
     let nodes = c.args.rule.now.nodes in
     let f = c.in_ok-open_kids.ensures.ok in
-    let after = c.open_kids.new.registers.items in
+    let after = c.open_kids.new.registers in
     let grown = c.open_kids.new.store in
-    let all = filled-all nodes grown after c.args.place f.step.inside (opened-filled nodes c.args.store.now grown c.args.registers.now.items after c.args.place _ f) in
-    λ k d h. All-get_or (IsNodeAt c.deref.result.now (length grown.nodes)) c.kids.result.now k d h (rw (c.deref.ensures.value, c.kids.ensures.kids) all)
+    let all = filled-all nodes grown after c.args.place f.step.inside (opened-filled nodes c.args.store.now grown c.args.registers.now after c.args.place _ f) in
+    λ k d h. All-get_or (IsNodeAt after (length grown.nodes)) c.kids.result.now k d h (rw c.kids.ensures.kids all)
 
 pub make-returns-clause-ok : goal.make-returns-clause-ok
 make-returns-clause-ok t c =
     let nodes = c.args.rule.now.nodes in
-    let kids = map (node_at c.open_kids.new.registers.items) (kids_of nodes c.args.place) in
+    let kids = map (node_at c.open_kids.new.registers) (kids_of nodes c.args.place) in
     let made : c.add_over.new.self ≡ with_node c.open_kids.new.store (labelled c.args.label kids) =
-    c.in_ok-node.ensures.ok ∙ ap₂ (λ (found : List (Option ℕ)) (ks : List ℕ). with_node c.open_kids.new.store (labelled c.args.label (map (node_at found) ks))) c.deref.ensures.value c.kids.ensures.kids in
-    made-opened nodes c.requires.template.older c.args.place c.args.label c.requires.label c.args.store.now c.open_kids.new.store c.args.registers.now.items
-    c.open_kids.new.registers.items kids c.in_ok-open_kids.ensures.ok c.add_over.new.self _ c.in_ok-node.node c.requires.place_in (sym c.requires.empty) c.in_ok-node.ensures.node made refl
+    c.in_ok-node.ensures.ok ∙ ap (λ (ks : List ℕ). with_node c.open_kids.new.store (labelled c.args.label (map (node_at c.open_kids.new.registers) ks))) c.kids.ensures.kids in
+    made-opened nodes c.requires.template.older c.args.place c.args.label c.requires.label c.args.store.now c.open_kids.new.store c.args.registers.now
+    c.open_kids.new.registers kids c.in_ok-open_kids.ensures.ok c.add_over.new.self _ c.in_ok-node.node c.requires.place_in (sym c.requires.empty) c.in_ok-node.ensures.node made c.set.ensures

@@ -7,7 +7,7 @@ use Rattle.mars_matching.proofs.matching.+opening.Given as goal
 abbrev pub invariant-open_kids-loop-at : goal.invariant-open_kids-loop-at
 invariant-open_kids-loop-at l = record {
   grows : Grows l.fn.store l.store;
-  kids : (kids : List ℕ) × AreOpened l.fn.rule.nodes l.fn.store l.store l.fn.registers.items l.registers.items l.fn.place kids l.at;
+  kids : (kids : List ℕ) × AreOpened l.fn.rule.nodes l.fn.store l.store l.fn.registers l.registers l.fn.place kids l.at;
 }
 
 abbrev pub decreases-open_kid : goal.decreases-open_kid

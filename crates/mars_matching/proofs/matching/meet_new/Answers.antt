@@ -1,4 +1,4 @@
-use Rattle.std.proofs.Common.{◌≡◌, ◌<◌, ℕ, length, get_or, arith, sym, ap, ◌∙◌, refl, subst, slice_get, Some}
+use Rattle.std.proofs.Common.{◌≡◌, ◌<◌, ℕ, length, get_or, arith, sym, ap, ◌∙◌, slice_get, Some}
 use Rattle.std.proofs.lemmas.List.{get_or_default}
 use Rattle.mars_tree.specs.Graph.{kids_of}
 use Rattle.mars_matching.proofs.Meets.{met-first, read-empty}
@@ -20,8 +20,8 @@ loop-at-preserved c =
     kid-listed c.kids-kids.result.now _ at c.kids-kids.ensures.kids within
     ∙ ap (λ (n : ℕ). Some n) (get_or_default c.kids-kids.result.now at 0 c.index-kids-at.result within ∙ sym c.index-kids-at.is) in
     let inside = kid-inside nodes c.requires.template.older c.args.place store c.args.node at c.index-kids-at.result c.requires.sound c.requires.alike y in
-    kids-step nodes c.requires.template.older c.args.place store store store c.args.registers.now.items c.loop-at.registers.items _ c.args.node at p c.index-kids-at.result
+    kids-step nodes c.requires.template.older c.args.place store store store c.args.registers.now c.loop-at.registers _ c.args.node at p c.index-kids-at.result
     c.requires.sound c.requires.alike c.loop-at.invariant is y
-    (met-first nodes store c.loop-at.registers.items _ p c.index-kids-at.result c.requires.sound c.loop-at.invariant.step.inside
+    (met-first nodes store c.loop-at.registers _ p c.index-kids-at.result c.requires.sound c.loop-at.invariant.step.inside
     (let in_range = c.requires.place_in in let same = c.loop-at.invariant.step.size in omega arith) inside
-    (read-empty c.loop-at.registers.items p c.index.result.now c.is_some.result c.index.ensures c.is_some.ensures c.if-is_some.false) refl)
+    (read-empty c.loop-at.registers p c.get.result c.is_some.result c.get.ensures c.is_some.ensures c.if-is_some.false) c.set.ensures)

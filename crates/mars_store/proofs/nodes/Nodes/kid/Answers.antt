@@ -1,4 +1,4 @@
-use Rattle.std.proofs.Common.{◌≡◌, ◌<◌, ◌+◌, length, get_or, arith}
+use Rattle.std.proofs.Common.{◌<◌, length, arith}
 use Rattle.mars_tree.proofs.Laid.{seen-within, seen-kid}
 use Rattle.mars_store.specs.CellsInside.{labels_in, starts_in}
 use Rattle.mars_store.proofs.Celled.{cells-nodes, cell-start, nodes-seen}

@@ -1,17 +1,17 @@
-use Rattle.std.proofs.Common.{◌<◌, ◌∷◌, [], Some, length, map, ap, ◌∙◌}
+use Rattle.std.proofs.Common.{◌≡◌, ◌<◌, ◌∷◌, [], ℕ, slice_get, Some, length, map, ap, ◌∙◌}
 use Rattle.std.proofs.lemmas.List.{length-map}
 use Rattle.std.proofs.lemmas.List.Elements.{All-map, All-weaker}
 use Rattle.mars_tree.proofs.Laid.{put_last}
 use Rattle.mars_store.specs.System.{IsNodeAt, node_at}
 use Rattle.mars_store.specs.declared.nodes.Cell.{Cell}
 use Rattle.mars_store.proofs.Celled.{cells-push}
-use Rattle.mars_store.proofs.Found.{found-below, found-within}
+use Rattle.mars_store.proofs.Found.{found-below}
 use Rattle.mars_store.proofs.nodes.Nodes.push_over.Goals as goal
 
 pub push_found-requires-clause-filled : goal.push_found-requires-clause-filled
 push_found-requires-clause-filled c =
-    All-weaker (IsNodeAt c.args.nodes.now (length c.args.self.now.nodes)) (λ place. place < length c.args.nodes.now)
-    (λ place h. found-within c.args.nodes.now (length c.args.self.now.nodes) place h) c.args.places.now c.requires.filled
+    All-weaker (IsNodeAt c.args.nodes.now (length c.args.self.now.nodes)) (λ place. (node : ℕ) × (slice_get c.args.nodes.now place ≡ Some (Some node)))
+    (λ place h. (h.node, h.has)) c.args.places.now c.requires.filled
 
 pub invariant_of-self-2 : goal.invariant_of-self-2
 invariant_of-self-2 c =

@@ -1,4 +1,4 @@
-use Rattle.std.proofs.Common.{◌<◌, length, arith, sym, ◌∙◌}
+use Rattle.std.proofs.Common.{◌<◌, length, arith, sym}
 use Rattle.std.proofs.lemmas.List.{take_all}
 use Rattle.mars_store.proofs.Celled.{cells-nodes, cells-links, cells-cut, same-linked}
 use Rattle.mars_store.proofs.nodes.Nodes.truncate.Goals as goal
