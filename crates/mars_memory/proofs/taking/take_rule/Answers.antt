@@ -25,11 +25,11 @@ settle-requires c =
     let mid : MemoryParts = record { system = c.match_head.new.store; difs = c.memory.inside.inequations; frozen = c.memory.inside.frozen; lists = c.memory.inside.lists } in
     let is = c.memory.view_is in
     let fine = rw c.if-not-branch.false at c.in_ok-match_head.ensures.fine in
-    let matched = subst (λ (m : MemoryParts). IsMatched c.args.flat.now.template m.system mid.system c.args.node c.match_head.new.registers.items) is fine in
+    let matched = subst (λ (m : MemoryParts). IsMatched c.args.flat.now.template m.system mid.system c.args.node c.match_head.new.registers) is fine in
     let difs = ap (λ (m : MemoryParts). m.difs) is in
     let frozen = ap (λ (m : MemoryParts). m.frozen) is in
     let lists = ap (λ (m : MemoryParts). m.lists) is in
-    written_has old mid c.write_body.new.memory c.args.node c.args.rest c.args.depth c.in_ok-list.list c.args.flat.now c.match_head.new.registers.items c.write_body.new.registers.nodes.items matched difs frozen lists c.in_ok-list.ensures c.requires.held c.requires.rule
+    written_has old mid c.write_body.new.memory c.args.node c.args.rest c.args.depth c.in_ok-list.list c.args.flat.now c.match_head.new.registers c.write_body.new.registers matched difs frozen lists c.in_ok-list.ensures c.requires.held c.requires.rule
 
 pub undo_to-requires : goal.undo_to-requires
 undo_to-requires c =
@@ -37,13 +37,13 @@ undo_to-requires c =
     let mid : MemoryParts = record { system = c.match_head.new.store; difs = c.memory.inside.inequations; frozen = c.memory.inside.frozen; lists = c.memory.inside.lists } in
     let is = c.memory.view_is in
     let fine = rw c.if-not-branch.false at c.in_ok-match_head.ensures.fine in
-    let matched = subst (λ (m : MemoryParts). IsMatched c.args.flat.now.template m.system mid.system c.args.node c.match_head.new.registers.items) is fine in
+    let matched = subst (λ (m : MemoryParts). IsMatched c.args.flat.now.template m.system mid.system c.args.node c.match_head.new.registers) is fine in
     let difs = ap (λ (m : MemoryParts). m.difs) is in
     let frozen = ap (λ (m : MemoryParts). m.frozen) is in
     let lists = ap (λ (m : MemoryParts). m.lists) is in
     let settled = rw c.in-None.is at c.in_ok-found.ensures in
     (memory_mark_kept old c.settle.new.memory c.mark-mark.result (later_memory_follows old c.write_body.new.memory c.settle.new.memory
-    (written_later old mid c.write_body.new.memory c.args.node c.args.rest c.args.depth c.in_ok-list.list c.args.flat.now c.match_head.new.registers.items c.write_body.new.registers.nodes.items matched difs frozen lists c.in_ok-list.ensures) settled.0) c.mark-mark.ensures.made).0
+    (written_later old mid c.write_body.new.memory c.args.node c.args.rest c.args.depth c.in_ok-list.list c.args.flat.now c.match_head.new.registers c.write_body.new.registers matched difs frozen lists c.in_ok-list.ensures) settled.0) c.mark-mark.ensures.made).0
 
 pub returns-in-Some : goal.returns-in-Some
 returns-in-Some c =
@@ -51,11 +51,11 @@ returns-in-Some c =
     let mid : MemoryParts = record { system = c.match_head.new.store; difs = c.memory.inside.inequations; frozen = c.memory.inside.frozen; lists = c.memory.inside.lists } in
     let is = c.memory.view_is in
     let fine = rw c.if-not-branch.false at c.in_ok-match_head.ensures.fine in
-    let matched = subst (λ (m : MemoryParts). IsMatched c.args.flat.now.template m.system mid.system c.args.node c.match_head.new.registers.items) is fine in
+    let matched = subst (λ (m : MemoryParts). IsMatched c.args.flat.now.template m.system mid.system c.args.node c.match_head.new.registers) is fine in
     let difs = ap (λ (m : MemoryParts). m.difs) is in
     let frozen = ap (λ (m : MemoryParts). m.frozen) is in
     let lists = ap (λ (m : MemoryParts). m.lists) is in
-    taken_some old mid c.write_body.new.memory c.args.node c.args.rest c.args.depth c.in_ok-list.list c.args.flat.now c.match_head.new.registers.items c.write_body.new.registers.nodes.items matched difs frozen lists c.in_ok-list.ensures c.settle.new.memory c.in-Some.found (rw c.in-Some.is at c.in_ok-found.ensures)
+    taken_some old mid c.write_body.new.memory c.args.node c.args.rest c.args.depth c.in_ok-list.list c.args.flat.now c.match_head.new.registers c.write_body.new.registers matched difs frozen lists c.in_ok-list.ensures c.settle.new.memory c.in-Some.found (rw c.in-Some.is at c.in_ok-found.ensures)
 
 pub returns-in-None : goal.returns-in-None
 returns-in-None c =
@@ -63,9 +63,9 @@ returns-in-None c =
     let mid : MemoryParts = record { system = c.match_head.new.store; difs = c.memory.inside.inequations; frozen = c.memory.inside.frozen; lists = c.memory.inside.lists } in
     let is = c.memory.view_is in
     let fine = rw c.if-not-branch.false at c.in_ok-match_head.ensures.fine in
-    let matched = subst (λ (m : MemoryParts). IsMatched c.args.flat.now.template m.system mid.system c.args.node c.match_head.new.registers.items) is fine in
+    let matched = subst (λ (m : MemoryParts). IsMatched c.args.flat.now.template m.system mid.system c.args.node c.match_head.new.registers) is fine in
     let difs = ap (λ (m : MemoryParts). m.difs) is in
     let frozen = ap (λ (m : MemoryParts). m.frozen) is in
     let lists = ap (λ (m : MemoryParts). m.lists) is in
-    taken_undone old mid c.write_body.new.memory c.args.node c.args.rest c.args.depth c.in_ok-list.list c.args.flat.now c.match_head.new.registers.items c.write_body.new.registers.nodes.items matched difs frozen lists c.in_ok-list.ensures c.settle.new.memory c.undo_to.new.self c.mark-mark.result (rw c.in-None.is at c.in_ok-found.ensures)
+    taken_undone old mid c.write_body.new.memory c.args.node c.args.rest c.args.depth c.in_ok-list.list c.args.flat.now c.match_head.new.registers c.write_body.new.registers matched difs frozen lists c.in_ok-list.ensures c.settle.new.memory c.undo_to.new.self c.mark-mark.result (rw c.in-None.is at c.in_ok-found.ensures)
     c.mark-mark.ensures.made c.mark-mark.ensures.back c.undo_to.ensures
