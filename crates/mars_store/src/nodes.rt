@@ -184,9 +184,31 @@ fn push_all(kids: &[NodeId], into: &mut Vec<NodeId>)
     }
 }
 
-/// Puts the nodes of places last in a list, which has room for them.
+/// Puts the nodes of places last in a list, which has room for them. Those of two and three places, as most nodes have,
+/// are put there without a loop.
 #[inline]
 fn push_found(places: &[usize], nodes: &Registers, into: &mut Vec<NodeId>)
+    requires room { into.old.len + length places.now ≤ into.old.cap }
+    requires filled { All (λ place. (node : ℕ) × (slice_get nodes.now place ≡ Some (Some node))) places.now }
+    ensures { into.new.items ≡ into.old.items ++ map (node_at nodes.now) places.now }
+{
+    match places.len() {
+        2 => {
+            into.push_reserved(nodes.node(places[0]));
+            into.push_reserved(nodes.node(places[1]));
+        }
+        3 => {
+            into.push_reserved(nodes.node(places[0]));
+            into.push_reserved(nodes.node(places[1]));
+            into.push_reserved(nodes.node(places[2]));
+        }
+        _ => push_each(places, nodes, into),
+    }
+}
+
+/// Puts the nodes of places last in a list, which has room for them, one after the other.
+#[inline]
+fn push_each(places: &[usize], nodes: &Registers, into: &mut Vec<NodeId>)
     requires room { into.old.len + length places.now ≤ into.old.cap }
     requires filled { All (λ place. (node : ℕ) × (slice_get nodes.now place ≡ Some (Some node))) places.now }
     ensures { into.new.items ≡ into.old.items ++ map (node_at nodes.now) places.now }

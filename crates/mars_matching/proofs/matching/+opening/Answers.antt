@@ -14,10 +14,10 @@ open_kids-loop-at-preserved t c = record {
   grows = grows-trans c.args.store.now c.loop-at.store c.open_kid.new.store c.loop-at.invariant.grows c.open_kid.ensures.grows;
   kids =
       let before = c.loop-at.invariant.kids in
-      let there : c.loop-at.at < length c.kids-places.result.now = let test = c.loop-at-test.true in let most = c.loop-at.auto.at-end in omega arith in (
+      let there : c.loop-at.at < length c.args.places.now = let test = c.loop-at-test.true in let most = c.loop-at.auto.at-end in omega arith in (
         before.0 ++ c.in_ok-open_kid.field-0 ∷ [],
         open-step c.args.rule.now.nodes c.requires.template.older c.args.place c.args.store.now c.loop-at.store c.open_kid.new.store c.args.registers.now c.loop-at.registers _ before.0 _ c.loop-at.at _ _
-            before.1 (kid-listed c.kids-places.result.now _ c.loop-at.at c.kids-places.ensures.kids there) c.in_ok-open_kid.ensures.ok c.open_kid.ensures.bound refl,
+            before.1 (kid-listed c.args.places.now _ c.loop-at.at c.requires.places there) c.in_ok-open_kid.ensures.ok c.open_kid.ensures.bound refl,
       );
 }
 
@@ -25,7 +25,7 @@ pub open_kids-returns-clause-ok : goal.open_kids-returns-clause-ok
 open_kids-returns-clause-ok t c =
     let nodes = c.args.rule.now.nodes in
     let all : c.loop-at.at ≡ length (kids_of nodes c.args.place) =
-    let most = c.loop-at.auto.at-end in let done = c.loop-at-test.false in omega (arith, ap length c.kids-places.ensures.kids) in
+    let most = c.loop-at.auto.at-end in let done = c.loop-at-test.false in omega (arith, ap length c.requires.places) in
     let opened = c.loop-at.invariant.kids in
     opened-found nodes c.args.store.now c.loop-at.store c.args.registers.now c.loop-at.registers c.args.place opened.0
     (subst (λ n. AreOpened nodes c.args.store.now c.loop-at.store c.args.registers.now c.loop-at.registers c.args.place opened.0 n) all opened.1)
@@ -37,13 +37,13 @@ make-add_over-requires-clause-filled t c =
     let after = c.open_kids.new.registers in
     let grown = c.open_kids.new.store in
     let all = filled-all nodes grown after c.args.place f.step.inside (opened-filled nodes c.args.store.now grown c.args.registers.now after c.args.place _ f) in
-    λ k d h. All-get_or (IsNodeAt after (length grown.nodes)) c.kids.result.now k d h (rw c.kids.ensures.kids all)
+    λ k d h. All-get_or (IsNodeAt after (length grown.nodes)) c.kids-places.result.now k d h (rw c.kids-places.ensures.kids all)
 
 pub make-returns-clause-ok : goal.make-returns-clause-ok
 make-returns-clause-ok t c =
     let nodes = c.args.rule.now.nodes in
     let kids = map (node_at c.open_kids.new.registers) (kids_of nodes c.args.place) in
     let made : c.add_over.new.self ≡ with_node c.open_kids.new.store (labelled c.args.label kids) =
-    c.in_ok-node.ensures.ok ∙ ap (λ (ks : List ℕ). with_node c.open_kids.new.store (labelled c.args.label (map (node_at c.open_kids.new.registers) ks))) c.kids.ensures.kids in
+    c.in_ok-node.ensures.ok ∙ ap (λ (ks : List ℕ). with_node c.open_kids.new.store (labelled c.args.label (map (node_at c.open_kids.new.registers) ks))) c.kids-places.ensures.kids in
     made-opened nodes c.requires.template.older c.args.place c.args.label c.requires.label c.args.store.now c.open_kids.new.store c.args.registers.now
     c.open_kids.new.registers kids c.in_ok-open_kids.ensures.ok c.add_over.new.self _ c.in_ok-node.node c.requires.place_in (sym c.requires.empty) c.in_ok-node.ensures.node made c.set.ensures

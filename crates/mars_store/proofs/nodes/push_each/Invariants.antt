@@ -1,6 +1,6 @@
 use Rattle.std.proofs.Common.{◌≡◌, ◌≤◌, ◌+◌, ◌++◌, length, map, take}
 use Rattle.mars_store.specs.System.{node_at}
-use Rattle.mars_store.proofs.nodes.push_found.Given as goal
+use Rattle.mars_store.proofs.nodes.push_each.Given as goal
 
 abbrev pub invariant-loop-place : goal.invariant-loop-place
 invariant-loop-place l = record {
